@@ -1,0 +1,9 @@
+pub mod Ranges
+pub mod Streams
+pub mod Counts
+pub mod Cycles
+pub mod Bursts
+pub mod Holds
+pub mod Faults
+pub mod Answers
+pub mod Values
