@@ -1,0 +1,120 @@
+// The worked cases: shown of the definitions by one proof, and worked out again by the calls.
+ghost use Rattle.worked.specs.Cases.{WorkedCases};
+use frames::Extended;
+use frames::ExtendedFormat;
+use frames::Standard;
+use frames::StandardFormat;
+use frames::U16Identifier;
+use frames::U32Identifier;
+use sources::Burst;
+use sources::BurstEntry;
+use sources::BurstSource;
+use sources::Cyclic;
+use sources::CyclicEntry;
+use sources::CyclicSource;
+use sources::Entry;
+use sources::HeldUp;
+use sources::HeldUpEntry;
+use sources::HeldUpSource;
+use sources::RowFault;
+use sources::Source;
+use std::error::AnyError;
+
+// The worked cases hold of the definitions that the contracts cite.
+fn cases_hold()
+    ensures { λ _. ⌜ WorkedCases ⌝ }
+{}
+
+fn show_work(rt: &impl Print, source: &impl Source, most: u32) -> Result<(), AnyError> {
+    for k in 1..most.saturating_add(1) {
+        let work = source.work(k);
+        println!(rt, "  work({k}) = {work}")?;
+    }
+    Ok(())
+}
+
+fn show_gaps(rt: &impl Print, source: &impl Source, most: u32) -> Result<(), AnyError> {
+    for q in 1..most.saturating_add(1) {
+        let gap = source.gap(q);
+        println!(rt, "  gap({q}) = {gap}")?;
+    }
+    let jitter = source.jitter();
+    println!(rt, "  jitter = {jitter}")?;
+    Ok(())
+}
+
+fn show_counts(rt: &impl Print, source: &impl Source, times: &[u32]) -> Result<(), AnyError> {
+    for x in times {
+        let count = source.count(*x);
+        println!(rt, "  count({x}) = {count}")?;
+    }
+    Ok(())
+}
+
+// Says whether a source was made, and hands it on.
+fn show_made<S: Source + Drop>(
+    rt: &impl Print,
+    result: Result<S, RowFault>,
+) -> Result<Option<S>, AnyError> {
+    match result {
+        Ok(source) => {
+            let identifier = source.identifier();
+            println!(rt, "  made with identifier {identifier}")?;
+            Ok(Some(source))
+        }
+        Err(fault) => {
+            let number = fault.number();
+            println!(rt, "  refused with {number}")?;
+            Ok(None)
+        }
+    }
+}
+
+fn show_cyclic(rt: &impl Print) -> Result<(), AnyError> {
+    println!(
+        rt,
+        "cyclic, standard format: identifier 1, period 200, payloads 2 4 1"
+    )?;
+    if let Some(source) = show_made(rt, Cyclic::new(Standard, 1, 200, &[2, 4, 1]))? {
+        show_work(rt, &source, 4)?;
+        show_gaps(rt, &source, 2)?;
+        show_counts(rt, &source, &[0, 200, 201])?;
+        println!(rt, "held up by 50, and by 1,000,000 on top of that")?;
+        if let Some(held) = show_made(rt, HeldUp::new(source, 50))? {
+            show_gaps(rt, &held, 1)?;
+            if let Some(longer) = show_made(rt, HeldUp::new(held, 1_000_000))? {
+                show_gaps(rt, &longer, 1)?;
+            }
+        }
+    }
+    Ok(())
+}
+
+fn show_burst(rt: &impl Print) -> Result<(), AnyError> {
+    println!(
+        rt,
+        "burst, extended format: identifier 70000, period 1000, size 3, spacing 10, payload 8"
+    )?;
+    if let Some(source) = show_made(rt, Burst::new(Extended, 70_000, 1_000, 3, 10, &[8]))? {
+        show_work(rt, &source, 2)?;
+        show_gaps(rt, &source, 4)?;
+        show_counts(rt, &source, &[10, 11, 1_000, 1_001])?;
+    }
+    Ok(())
+}
+
+fn show_refusal(rt: &impl Print) -> Result<(), AnyError> {
+    println!(
+        rt,
+        "cyclic, standard format: identifier 1, period 99, payloads 2 4 1"
+    )?;
+    let _ = show_made(rt, Cyclic::new(Standard, 1, 99, &[2, 4, 1]))?;
+    Ok(())
+}
+
+fn main(rt: LibcRuntime) -> Result<(), AnyError> {
+    cases_hold();
+    show_cyclic(&rt)?;
+    show_burst(&rt)?;
+    show_refusal(&rt)
+}
