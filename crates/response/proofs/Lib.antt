@@ -1,0 +1,9 @@
+pub mod Searches
+pub mod Curves
+pub mod Bounds
+pub mod Sums
+pub mod Finds
+pub mod Rows
+pub mod Queued
+pub mod Windows
+pub mod Runs

@@ -1,0 +1,4 @@
+pub mod Searches
+pub mod Bounds
+pub mod Runs
+pub mod Views
