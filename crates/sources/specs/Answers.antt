@@ -6,17 +6,15 @@ use lib.ListN.{length, getD}
 use lib.Dec.{ltb}
 use Rattle.std.specs.declared.result.Result.{Result}
 use Rattle.std.specs.declared.result.Result.the-variants.{Ok, Err}
-use Rattle.sources.specs.declared.fault.RowFault.{RowFault}
-use Rattle.sources.specs.Faults.{fault-number}
 
 pub data Answer (V : Type 0) : Type 0 where
   made : V → Answer V
   refused : ℕ → Answer V
 
--- A call's result as such an answer.
-abbrev pub answered : {S V : Type 0} → (S → V) → Result S RowFault → Answer V
-answered values (Ok s) = made (values s)
-answered values (Err f) = refused (fault-number f)
+-- A call's result as such an answer: the values of what it made, or the number of its fault.
+abbrev pub answered : {S E V : Type 0} → (E → ℕ) → (S → V) → Result S E → Answer V
+answered number values (Ok s) = made (values s)
+answered number values (Err f) = refused (number f)
 
 -- The number of the first check that finds a fault, or the values where none does.
 abbrev pub checked : {V : Type 0} → List (Bool × ℕ) → V → Answer V

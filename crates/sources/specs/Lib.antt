@@ -7,3 +7,4 @@ pub mod Holds
 pub mod Faults
 pub mod Answers
 pub mod Values
+pub mod Models

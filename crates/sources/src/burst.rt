@@ -3,6 +3,7 @@ ghost use mathlib.Core.Path.{_≡_};
 ghost use Prim.Native.Nat.{ℕ, _+_, _-_, _*_, _≤_};
 ghost use Rattle.sources.specs.Counts.{count, argument};
 ghost use Rattle.sources.specs.Bursts.{BurstNumbers, burst-gap, burst-work, burst-count, BurstTraffic};
+ghost use Rattle.sources.specs.Faults.{fault-number};
 ghost use Rattle.sources.specs.Answers.{answered, BurstValues, burst-answer};
 use crate::fault::RowFault;
 use crate::payloads::oversized;
@@ -43,7 +44,7 @@ impl<F: Format<Id = I>, I: Identifier> Burst<F, I> {
         spacing: u32,
         payloads: &[u8],
     ) -> Result<Burst<F, I>, RowFault>
-        ensures { λ r. ⌜ answered {V = BurstValues} (λ b. record { identifier = I·Identifier .number (b .identifier); period = b .period; size = b .size; spacing = b .spacing; bits = b .bits }) r ≡ burst-answer (F·Format .highest) (F·Format .longest) (I·Identifier .number identifier) period size spacing (now (payloads .entry)) ⌝ }
+        ensures { λ r. ⌜ answered {V = BurstValues} fault-number (λ b. record { identifier = I·Identifier .number (b .identifier); period = b .period; size = b .size; spacing = b .spacing; bits = b .bits }) r ≡ burst-answer (F·Format .highest) (F·Format .longest) (I·Identifier .number identifier) period size spacing (now (payloads .entry)) ⌝ }
     {
         if identifier.number() > F::highest_identifier() {
             return Err(RowFault::Identifier);

@@ -5,6 +5,7 @@ ghost use Prim.Native.Nat.{ℕ, _+_, _-_, _*_, _/_, _≤_};
 ghost use Rattle.sources.specs.Counts.{count, argument, gap-answer, jitter-answer};
 ghost use Rattle.sources.specs.Cycles.{cycle-work, cyclic-gap, CyclicTraffic, WholeRounds};
 ghost use Rattle.sources.specs.Values.{lengths-of};
+ghost use Rattle.sources.specs.Faults.{fault-number};
 ghost use Rattle.sources.specs.Answers.{answered, CyclicValues, cyclic-answer};
 use crate::cycle::Cycle;
 use crate::fault::RowFault;
@@ -39,7 +40,7 @@ impl<F: Format<Id = I>, I: Identifier> Cyclic<F, I> {
         period: u32,
         payloads: &[u8],
     ) -> Result<Cyclic<F, I>, RowFault>
-        ensures { λ r. ⌜ answered {V = CyclicValues} (λ c. record { identifier = I·Identifier .number (c .identifier); period = c .period; cycle = lengths-of (c .cycle) }) r ≡ cyclic-answer (F·Format .highest) (F·Format .longest) (I·Identifier .number identifier) period (now (payloads .entry)) ⌝ }
+        ensures { λ r. ⌜ answered {V = CyclicValues} fault-number (λ c. record { identifier = I·Identifier .number (c .identifier); period = c .period; cycle = lengths-of (c .cycle) }) r ≡ cyclic-answer (F·Format .highest) (F·Format .longest) (I·Identifier .number identifier) period (now (payloads .entry)) ⌝ }
     {
         if identifier.number() > F::highest_identifier() {
             return Err(RowFault::Identifier);

@@ -2,6 +2,7 @@
 ghost use mathlib.Core.Path.{_≡_};
 ghost use Prim.Native.Nat.{ℕ, _+_};
 ghost use Rattle.sources.specs.Holds.{HeldUpTraffic};
+ghost use Rattle.sources.specs.Faults.{fault-number};
 ghost use Rattle.sources.specs.Answers.{answered, held-up-answer};
 ghost use Rattle.sources.specs.Values.{held-up-values};
 use crate::fault::RowFault;
@@ -17,7 +18,7 @@ pub struct HeldUp<S> {
 impl<S: Source + Drop> HeldUp<S> {
     // The source below with each instance queued 0 to hold later; refused with 16 where the hold is above 1,000,000.
     pub fn new(below: S, hold: u32) -> Result<HeldUp<S>, RowFault>
-        ensures { λ r. ⌜ answered held-up-values r ≡ held-up-answer below hold ⌝ }
+        ensures { λ r. ⌜ answered fault-number held-up-values r ≡ held-up-answer below hold ⌝ }
     {
         if hold > 1_000_000 {
             return Err(RowFault::Hold);
