@@ -9,7 +9,7 @@ use Rattle.sources.proofs.Ranges.{largest-is-upper, largest-is-least, largest-i
 use Rattle.response.specs.Searches.{Found, ended, failed, horizon, fixed-point, value-of, rounds-of}
 use Rattle.response.specs.Bounds.{AllLawful, Place, loads, busy, delay, busy-search, NoFixedPoint, instances, delay-search, candidate, bound, delay-rounds}
 use Rattle.response.proofs.Searches.{Least, searched, least, ends-below, rounds-rising}
-use Rattle.response.proofs.Curves.{work-never-falls, work-apart, work-at-least, one-count, load-at-least, loads-never-falls, busy-never-falls, delay-never-falls}
+use Rattle.response.proofs.CurveLaws.{work-never-falls, work-apart, work-at-least, one-count, load-at-least, loads-never-falls, busy-never-falls, delay-never-falls}
 
 -- The value from which the delay of instance q is searched.
 abbrev pub delay-start : Place → ℕ → ℕ

@@ -1,5 +1,5 @@
 pub mod Searches
-pub mod Curves
+pub mod CurveLaws
 pub mod Bounds
 pub mod Sums
 pub mod Finds
@@ -7,3 +7,4 @@ pub mod Rows
 pub mod Queued
 pub mod Windows
 pub mod Runs
+pub mod AnswerLaws

@@ -14,7 +14,7 @@ use Rattle.response.specs.Searches.{value-of}
 use Rattle.response.specs.Runs.{Run, Lawful, Has, instance-of, NoLater}
 use Rattle.response.proofs.Sums.{sum-from-lt, sum-from-more}
 use Rattle.response.proofs.Finds.{all-or-some, last-upto}
-use Rattle.response.proofs.Curves.{all-lawful, take-lawful, loads-never-falls}
+use Rattle.response.proofs.CurveLaws.{all-lawful, take-lawful, loads-never-falls}
 use Rattle.response.proofs.Rows.{loads-sum}
 use Rattle.response.proofs.Queued.{others-late, late-not-counted, piece-arrives, piece-counted}
 use Rattle.response.proofs.Windows.{before, end-of, row-overlap, Quiet, Unended, Window, in-order, rest-of-window, upper-bits, upper-load, upper-load-less}

@@ -2,3 +2,4 @@ pub mod Searches
 pub mod Bounds
 pub mod Runs
 pub mod Views
+pub mod Curves

@@ -11,11 +11,10 @@ pub const HORIZON: u32 = 1_000_000;
 pub trait Curve {
     ghost curve: { Self → ℕ → ℕ };
 
-    law never_falls: { (c : Self) → NeverFalls (curve c) };
-
-    // The curve's value at x; one past the horizon is answered as 1,000,001.
+    // The curve's value at x; one past the horizon is answered as 1,000,001. The curve never falls.
     fn value(&self, x: u32) -> u32
-        ensures { λ r. ⌜ r ≡ min (curve (now (self .entry)) x) 1000001 ⌝ };
+        ensures answer { λ r. ⌜ r ≡ min (curve (now (self .entry)) x) 1000001 ⌝ }
+        ensures rising { λ _. ⌜ NeverFalls (curve (now (self .entry))) ⌝ };
 }
 
 // How a search came out, with the number of evaluations that it made.
@@ -35,8 +34,8 @@ pub fn search<C: Curve>(on: &C, start: u32) -> Found
     let mut value = start;
     let mut rounds = 0;
     loop {
-        rounds += 1;
         let answer = on.value(value);
+        rounds += 1;
         if answer > HORIZON {
             return Found::Failed { rounds };
         }

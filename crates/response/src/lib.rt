@@ -1,6 +1,11 @@
 // The response bound of one message among the messages of a bus.
+mod curves;
 mod fixed_point;
+mod listed;
 
 pub use fixed_point::Curve;
 pub use fixed_point::Found;
 pub use fixed_point::search;
+pub use listed::Listed;
+pub use listed::Row;
+pub use listed::RowListed;

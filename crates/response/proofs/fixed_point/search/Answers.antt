@@ -34,18 +34,18 @@ module _ (f : ℕ → ℕ) (falls-not : NeverFalls f) (start : ℕ) (o : Found) 
 
 pub loop-start-again : need.loop-start-again
 loop-start-again g c =
-    again (g .C·Curve .curve (c .args .on .now)) (g .C·Curve·met .«never_falls» (c .args .on .now)) (c .args .start) (c .loop-start .value) (c .loop-start .rounds) (c .value-answer .result)
-    (c .loop-start .inv) (c .value-answer .ensures) (c .if-answer-gt-HORIZON .left) (c .if-answer-value .left)
+    again (g .C·Curve .curve (c .args .on .now)) (c .value-answer .ensures .rising) (c .args .start) (c .loop-start .value) (c .loop-start .rounds) (c .value-answer .result)
+    (c .loop-start .inv) (c .value-answer .ensures .answer) (c .if-answer-gt-HORIZON .left) (c .if-answer-value .left)
 
 pub loop-start-less : need.loop-start-less
 loop-start-less g c =
-    fewer (g .C·Curve .curve (c .args .on .now)) (g .C·Curve·met .«never_falls» (c .args .on .now)) (c .args .start) (c .loop-start .value) (c .loop-start .rounds) (c .value-answer .result)
-    (c .loop-start .inv) (c .value-answer .ensures) (c .if-answer-gt-HORIZON .left) (c .if-answer-value .left)
+    fewer (g .C·Curve .curve (c .args .on .now)) (c .value-answer .ensures .rising) (c .args .start) (c .loop-start .value) (c .loop-start .rounds) (c .value-answer .result)
+    (c .loop-start .inv) (c .value-answer .ensures .answer) (c .if-answer-gt-HORIZON .left) (c .if-answer-value .left)
 
 pub add-rounds : need.add-rounds
 add-rounds g c =
     let f = g .C·Curve .curve (c .args .on .now) in
-    let falls-not = g .C·Curve·met .«never_falls» (c .args .on .now) in
+    let falls-not = c .value-answer .ensures .rising in
     let left : rounds-of (fixed-point f (c .args .start)) ≡ c .loop-start .rounds + rounds-of (fixed-point f (c .loop-start .value)) =
       ap rounds-of (c .loop-start .inv) ∙ more-rounds (c .loop-start .rounds) (fixed-point f (c .loop-start .value)) in
     omega (arith, rounds-few f falls-not (searched f falls-not (c .args .start)))
@@ -53,15 +53,15 @@ add-rounds g c =
 pub returns-then-answer-gt-HORIZON : need.returns-then-answer-gt-HORIZON
 returns-then-answer-gt-HORIZON g c =
     let f = g .C·Curve .curve (c .args .on .now) in
-    let falls-not = g .C·Curve·met .«never_falls» (c .args .on .now) in
+    let falls-not = c .value-answer .ensures .rising in
     let is : failed (c .loop-start .rounds + 1) ≡ fixed-point f (c .args .start) =
-      fails f falls-not (c .args .start) (c .loop-start .value) (c .loop-start .rounds) (c .value-answer .result) (c .loop-start .inv) (c .value-answer .ensures) (c .if-answer-gt-HORIZON .taken) in
+      fails f falls-not (c .args .start) (c .loop-start .value) (c .loop-start .rounds) (c .value-answer .result) (c .loop-start .inv) (c .value-answer .ensures .answer) (c .if-answer-gt-HORIZON .taken) in
     record { value = is; steps = by-steps f falls-not (c .args .start) _ is; least = the-least f falls-not (c .args .start) _ is }
 
 pub returns-then-answer-value : need.returns-then-answer-value
 returns-then-answer-value g c =
     let f = g .C·Curve .curve (c .args .on .now) in
-    let falls-not = g .C·Curve·met .«never_falls» (c .args .on .now) in
+    let falls-not = c .value-answer .ensures .rising in
     let is : ended (c .loop-start .value) (c .loop-start .rounds + 1) ≡ fixed-point f (c .args .start) =
-      ends f falls-not (c .args .start) (c .loop-start .value) (c .loop-start .rounds) (c .value-answer .result) (c .loop-start .inv) (c .value-answer .ensures) (c .if-answer-gt-HORIZON .left) (c .if-answer-value .taken) in
+      ends f falls-not (c .args .start) (c .loop-start .value) (c .loop-start .rounds) (c .value-answer .result) (c .loop-start .inv) (c .value-answer .ensures .answer) (c .if-answer-gt-HORIZON .left) (c .if-answer-value .taken) in
     record { value = is; steps = by-steps f falls-not (c .args .start) _ is; least = the-least f falls-not (c .args .start) _ is }
