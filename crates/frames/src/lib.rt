@@ -1,7 +1,7 @@
 // The two frame formats of a CAN bus: their identifiers, and the longest frame for each payload.
 ghost use mathlib.Core.Path.{_≡_};
-ghost use mathlib.Core.List.{List, map};
-ghost use Prim.Native.Nat.{ℕ, _+_, _*_, _^_, _<_, _≤_};
+ghost use mathlib.Core.List.{map};
+ghost use Prim.Native.Nat.{ℕ, _^_, _<_, _≤_};
 ghost use Rattle.frames.specs.Frames.{longest-frame, payload-sizes, payload-bytes};
 
 // The integer type that holds the identifiers of a format.

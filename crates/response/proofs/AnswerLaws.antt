@@ -11,7 +11,7 @@ use Rattle.sources.specs.declared.source.Source as source
 use Rattle.response.specs.declared.listed.Listed as listed
 use Rattle.response.specs.Searches.{horizon, NeverFalls}
 use Rattle.response.specs.Bounds.{AllLawful, load, loads}
-use Rattle.response.specs.Curves.{answerable, models, load-answer, loads-answer, busy-answer, delay-answer}
+use Rattle.response.specs.Curves.{answerable, models, SmallJitters, load-answer, loads-answer, busy-answer, delay-answer}
 use Rattle.response.proofs.CurveLaws.{load-never-falls, loads-never-falls}
 
 -- A source that answers its jitter keeps the laws, with no traffic to look at.
@@ -70,10 +70,6 @@ pub delay-answer-rises : (above : List Model) → AllLawful above → (held : �
 delay-answer-rises above upper held s t l = omega (arith, loads-answer-rises above upper (s + 1) (t + 1) (omega arith))
 
 -- Where no jitter is above the horizon, the loads are as they are meant, for times up to the horizon.
-abbrev pub SmallJitters : List Model → Type 0
-SmallJitters [] = Unit {0}
-SmallJitters (m ∷ ms) = (m .jitter ≤ horizon) × SmallJitters ms
-
 pub load-exact : (m : Model) → m .jitter ≤ horizon → (t : ℕ) → t ≤ horizon → load-answer m t ≡ load m t
 load-exact m small t within =
     let time : min t horizon ≡ t = omega arith in

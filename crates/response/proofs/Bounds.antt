@@ -149,7 +149,7 @@ module _ (p : Place) (upper : AllLawful (p .above)) (own : Laws (p .own)) where
           early = omega arith;
           start-under = under;
           start-before = found .3 .1;
-          rounds-few = found .4
+          rounds-few = found .4;
         }
 
     -- Every delay search of a busy period ends.
@@ -206,7 +206,7 @@ module _ (p : Place) (upper : AllLawful (p .above)) (own : Laws (p .own)) where
     delay-rounds-upto zero l = omega (arith, delay-rounds-few 0 l)
     delay-rounds-upto (suc n) l =
         let last : delay-rounds p (suc (suc n)) ≡ delay-rounds p (suc n) + rounds-of (delay-search p (suc n)) =
-            sum-from-last (λ q. rounds-of (delay-search p q)) 0 (suc n) ∙ ap (λ q. delay-rounds p (suc n) + rounds-of (delay-search p q)) (zero-add (suc n)) in
+        sum-from-last (λ q. rounds-of (delay-search p q)) 0 (suc n) ∙ ap (λ q. delay-rounds p (suc n) + rounds-of (delay-search p q)) (zero-add (suc n)) in
         omega (arith, delay-rounds-upto n (omega arith), delay-rounds-few (suc n) l)
 
     -- The rounds of the first n delay searches of a busy period are at most n more than its length.

@@ -142,6 +142,18 @@ module _ (f : ℕ → ℕ) (falls-not : NeverFalls f) where
   pub goes-on-from : (x : ℕ) → f x ≤ horizon → (f x ≡ x → ⊥) → fixed-point f x ≡ one-more (fixed-point f (f x))
   goes-on-from x within other = one-outcome (searched x) (goes-on within other (searched (f x)))
 
+-- Curves that agree wherever a search evaluates them have the same search.
+pub same-steps : (f g : ℕ → ℕ) (P : ℕ → Type 0) → ((x : ℕ) → P x → f x ≤ horizon → P (f x)) → ((x : ℕ) → P x → f x ≡ g x) → {x : ℕ} {o : Found} → Searches f x o → P x → Searches g x o
+same-steps f g P closed agree (passes {x = x} over) at-x = passes (omega (arith, agree x at-x))
+same-steps f g P closed agree (stands {x = x} within same) at-x = stands (omega (arith, agree x at-x)) (omega (arith, agree x at-x))
+same-steps f g P closed agree (goes-on {x = x} {o = o} within other next) at-x =
+    goes-on (omega (arith, agree x at-x)) (λ e. other (omega (arith, agree x at-x)))
+    (rw (agree x at-x) at (same-steps f g P closed agree next (closed x at-x within)))
+
+pub same-search : (f g : ℕ → ℕ) → NeverFalls f → NeverFalls g → (P : ℕ → Type 0) → ((x : ℕ) → P x → f x ≤ horizon → P (f x)) → ((x : ℕ) → P x → f x ≡ g x) → (x : ℕ) → P x → fixed-point f x ≡ fixed-point g x
+same-search f g f-rises g-rises P closed agree x at-x =
+    one-outcome (same-steps f g P closed agree (searched f f-rises x) at-x) (searched g g-rises x)
+
 -- The same outcome after n evaluations more.
 abbrev pub more : ℕ → Found → Found
 more n (ended value rounds) = ended value (n + rounds)

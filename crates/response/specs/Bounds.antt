@@ -34,6 +34,9 @@ pub record Place : Type 1 where
   pub own : Model
   pub blocking : ℕ
 
+abbrev pub row-place : List Model → Model → ℕ → Place
+row-place above own blocking = record { above = above; own = own; blocking = blocking }
+
 -- The most that the bus is held, within t from the start of a busy period, by a frame below, the row itself and the rows above.
 abbrev pub busy : Place → ℕ → ℕ
 busy p t = p .blocking + (load (p .own) t + loads (p .above) t)
@@ -77,15 +80,40 @@ pub data Response : Type 0 where
   late : (bound rounds : ℕ) → Response
   none : (rounds : ℕ) → Response
 
+-- The verdict alone.
+pub data Verdict : Type 0 where
+  is-ok is-late is-none : Verdict
+
+abbrev pub verdict : Response → Verdict
+verdict (ok bound rounds) = is-ok
+verdict (late bound rounds) = is-late
+verdict (none rounds) = is-none
+
+-- The bound, and 0 in its place where there is none.
+abbrev pub bound-of : Response → ℕ
+bound-of (ok bound rounds) = bound
+bound-of (late bound rounds) = bound
+bound-of (none rounds) = 0
+
+-- The round count.
+abbrev pub response-rounds : Response → ℕ
+response-rounds (ok bound rounds) = rounds
+response-rounds (late bound rounds) = rounds
+response-rounds (none rounds) = rounds
+
 -- A bound against its deadline.
 abbrev pub judged : ℕ → ℕ → ℕ → Response
 judged deadline b rounds = elim (leb b deadline) [ true ↦ ok b rounds | false ↦ late b rounds ]
 
+-- The judgement of a row whose busy period ends at t.
+abbrev pub judged-at : Place → ℕ → ℕ → ℕ → Response
+judged-at p deadline t rounds = judged deadline (bound p (instances p t)) (rounds + delay-rounds p (instances p t))
+
 abbrev pub response : Place → ℕ → Response
 response p deadline = elim (busy-search p) [
-    ended t rounds ↦ judged deadline (bound p (instances p t)) (rounds + delay-rounds p (instances p t))
+  | ended t rounds ↦ judged-at p deadline t rounds
   | failed rounds ↦ none rounds
-  ]
+]
 
 -- What stands past the last row.
 abbrev pub no-model : Model
@@ -97,4 +125,4 @@ row rows k = getD rows k no-model
 
 -- Row m of the rows, as its analysis sees it.
 abbrev pub place : List Model → ℕ → Place
-place rows m = record { above = take m rows; own = row rows m; blocking = longest-of (drop (suc m) rows) }
+place rows m = row-place (take m rows) (row rows m) (longest-of (drop (suc m) rows))

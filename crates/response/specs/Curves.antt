@@ -1,6 +1,6 @@
 -- The curves that the analysis evaluates, as the calls of the sources answer them.
-use mathlib.Core.List.{List, map}
-use Prim.Native.Nat.{ℕ, _+_, min}
+use mathlib.Core.List.{List, [], _∷_, map}
+use Prim.Native.Nat.{ℕ, _+_, _≤_, min}
 use Rattle.sources.specs.Streams.{Model}
 use Rattle.sources.specs.Counts.{jitter-answer}
 use Rattle.sources.specs.Models.{model}
@@ -16,6 +16,11 @@ answerable m = record { gap = m .gap; work = m .work; jitter = jitter-answer (m 
 -- The models of listed rows, in their order.
 abbrev pub models : {L S : Type 0} → listed.Ghosts L S → source.Ghosts S → List L → List Model
 models rows sources ls = map (λ l. model sources (rows .source l)) ls
+
+-- No row has a jitter above the horizon.
+abbrev pub SmallJitters : List Model → Type 0
+SmallJitters [] = Unit {0}
+SmallJitters (m ∷ ms) = (m .jitter ≤ horizon) × SmallJitters ms
 
 -- A row's load within t, for times up to the horizon.
 abbrev pub load-answer : Model → ℕ → ℕ

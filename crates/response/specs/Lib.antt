@@ -1,5 +1,6 @@
 pub mod Searches
 pub mod Bounds
 pub mod Runs
-pub mod Views
 pub mod Curves
+pub mod Views
+pub mod Analysis

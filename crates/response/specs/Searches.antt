@@ -31,8 +31,8 @@ search-within zero f x = failed 0
 search-within (suc n) f x =
     let y : ℕ = f x in
     elim (ltb horizon y) [
-      true ↦ failed 1
-    | false ↦ elim (eqb y x) [ true ↦ ended x 1 | false ↦ one-more (search-within n f y) ]
+      | true ↦ failed 1
+      | false ↦ elim (eqb y x) [ true ↦ ended x 1 | false ↦ one-more (search-within n f y) ]
     ]
 
 -- The search: on a curve that never falls the values rise up to the horizon or fall down to 0, so that this many evaluations are

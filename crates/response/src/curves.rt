@@ -40,7 +40,7 @@ pub(crate) struct Busy<'a, L> {
     pub(crate) blocking: u32,
 }
 
-impl<'a, L: Listed<Of = S>, S: Source> Curve for Busy<'a, L> as BusyCurve {
+pub impl<'a, L: Listed<Of = S>, S: Source> Curve for Busy<'a, L> as BusyCurve {
     ghost curve = { λ c. busy-answer (models L·Listed S·Source (behind (c .above))) (model S·Source (L·Listed .source (behind (c .own)))) (c .blocking) };
 
     fn value(&self, x: u32) -> u32 {
@@ -57,7 +57,7 @@ pub(crate) struct Delay<'a, L> {
     pub(crate) held: u32,
 }
 
-impl<'a, L: Listed<Of = S>, S: Source> Curve for Delay<'a, L> as DelayCurve {
+pub impl<'a, L: Listed<Of = S>, S: Source> Curve for Delay<'a, L> as DelayCurve {
     ghost curve = { λ c. delay-answer (models L·Listed S·Source (behind (c .above))) (c .held) };
 
     fn value(&self, x: u32) -> u32 {

@@ -1,7 +1,7 @@
 // The one search for a fixed point, for every curve that never falls.
 ghost use mathlib.Core.Path.{_≡_};
 ghost use Prim.Native.Nat.{ℕ, _≤_, min};
-ghost use Rattle.response.specs.Searches.{NeverFalls, Searches, fixed-point, FindsLeast};
+ghost use Rattle.response.specs.Searches.{NeverFalls, Searches, fixed-point, FindsLeast, value-of, rounds-of};
 ghost use Rattle.response.specs.Views.{found-of};
 
 // The time past which no search goes.
@@ -22,6 +22,27 @@ pub trait Curve {
 pub enum Found {
     Ended { value: u32, rounds: u32 },
     Failed { rounds: u32 },
+}
+
+impl Found {
+    // Where the search ended, and 0 where it failed.
+    pub fn value(&self) -> u32
+        ensures { λ r. ⌜ r ≡ value-of (found-of (now (self .entry))) ⌝ }
+    {
+        match *self {
+            Found::Ended { value, .. } => value,
+            Found::Failed { .. } => 0,
+        }
+    }
+
+    // How many evaluations the search made.
+    pub fn rounds(&self) -> u32
+        ensures { λ r. ⌜ r ≡ rounds-of (found-of (now (self .entry))) ⌝ }
+    {
+        match *self {
+            Found::Ended { rounds, .. } | Found::Failed { rounds } => rounds,
+        }
+    }
 }
 
 // Evaluates the curve at a value, ends where the answer equals the value, and otherwise goes on from the answer; fails where an

@@ -12,7 +12,7 @@ use crate::source::Source;
 use frames::Format;
 use frames::Identifier;
 
-// A burst has size frames of the given bits, at least the spacing apart; the next burst comes at least a period later.
+// Frames of the given bits, each at least the spacing after the one before, and at least a period after the one that is size before.
 #[derive(Copy)]
 pub struct Burst<F, I> {
     format: F,
@@ -27,6 +27,10 @@ pub struct Burst<F, I> {
 }
 
 pub impl<F: Copy, I: Copy> Clone for Burst<F, I> as BurstClone {
+    ghost clones = { λ c d. d ≡ c };
+
+    ghost sure = { λ c. c ≡ c };
+
     fn clone(&self) -> Result<Burst<F, I>, std::alloc::AllocError> {
         Ok(*self)
     }

@@ -1,8 +1,7 @@
 // A cycle of frame lengths, with the largest sums of successive ones.
 ghost use mathlib.Core.Path.{_≡_};
-ghost use Prim.Native.Nat.{ℕ, _+_, _-_, _*_, _<_, _≤_};
+ghost use Prim.Native.Nat.{ℕ, _+_, _*_, _<_, _≤_};
 ghost use lib.ListN.{length, getD, take};
-ghost use Rattle.sources.specs.Ranges.{largest};
 ghost use Rattle.sources.specs.Cycles.{FrameCycle, run, cycle-work};
 
 // lengths holds size frame lengths, and most, at k up to size, the largest sum of k successive ones, going round.

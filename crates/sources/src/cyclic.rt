@@ -1,8 +1,7 @@
 // The cyclic source: a message sent at a period, whose payload size goes round a cycle.
 ghost use mathlib.Core.Path.{_≡_};
-ghost use mathlib.Core.List.{List};
 ghost use Prim.Native.Nat.{ℕ, _+_, _-_, _*_, _/_, _≤_};
-ghost use Rattle.sources.specs.Counts.{count, argument, gap-answer, jitter-answer};
+ghost use Rattle.sources.specs.Counts.{count, argument};
 ghost use Rattle.sources.specs.Cycles.{cycle-work, cyclic-gap, CyclicTraffic, WholeRounds};
 ghost use Rattle.sources.specs.Values.{lengths-of};
 ghost use Rattle.sources.specs.Faults.{fault-number};
@@ -26,6 +25,10 @@ pub struct Cyclic<F, I> {
 }
 
 pub impl<F: Copy, I: Copy> Clone for Cyclic<F, I> as CyclicClone {
+    ghost clones = { λ c d. d ≡ c };
+
+    ghost sure = { λ c. c ≡ c };
+
     fn clone(&self) -> Result<Cyclic<F, I>, std::alloc::AllocError> {
         Ok(*self)
     }

@@ -36,7 +36,7 @@ pub trait Source: Entry {
     fn jitter(&self) -> u32
         ensures { λ r. ⌜ r ≡ jitter-answer (jitter (now (self .entry))) ⌝ };
 
-    // The largest n with gap(n - 1) below x.
+    // The largest n with gap(n - 1) below x, and 0 for x = 0.
     fn count(&self, x: u32) -> u32
         ensures { λ r. ⌜ r ≡ count (gap (now (self .entry))) (argument x) ⌝ };
 }

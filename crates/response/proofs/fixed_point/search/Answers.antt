@@ -47,7 +47,7 @@ add-rounds g c =
     let f = g .C·Curve .curve (c .args .on .now) in
     let falls-not = c .value-answer .ensures .rising in
     let left : rounds-of (fixed-point f (c .args .start)) ≡ c .loop-start .rounds + rounds-of (fixed-point f (c .loop-start .value)) =
-      ap rounds-of (c .loop-start .inv) ∙ more-rounds (c .loop-start .rounds) (fixed-point f (c .loop-start .value)) in
+    ap rounds-of (c .loop-start .inv) ∙ more-rounds (c .loop-start .rounds) (fixed-point f (c .loop-start .value)) in
     omega (arith, rounds-few f falls-not (searched f falls-not (c .args .start)))
 
 pub returns-then-answer-gt-HORIZON : need.returns-then-answer-gt-HORIZON
@@ -55,7 +55,7 @@ returns-then-answer-gt-HORIZON g c =
     let f = g .C·Curve .curve (c .args .on .now) in
     let falls-not = c .value-answer .ensures .rising in
     let is : failed (c .loop-start .rounds + 1) ≡ fixed-point f (c .args .start) =
-      fails f falls-not (c .args .start) (c .loop-start .value) (c .loop-start .rounds) (c .value-answer .result) (c .loop-start .inv) (c .value-answer .ensures .answer) (c .if-answer-gt-HORIZON .taken) in
+    fails f falls-not (c .args .start) (c .loop-start .value) (c .loop-start .rounds) (c .value-answer .result) (c .loop-start .inv) (c .value-answer .ensures .answer) (c .if-answer-gt-HORIZON .taken) in
     record { value = is; steps = by-steps f falls-not (c .args .start) _ is; least = the-least f falls-not (c .args .start) _ is }
 
 pub returns-then-answer-value : need.returns-then-answer-value
@@ -63,5 +63,5 @@ returns-then-answer-value g c =
     let f = g .C·Curve .curve (c .args .on .now) in
     let falls-not = c .value-answer .ensures .rising in
     let is : ended (c .loop-start .value) (c .loop-start .rounds + 1) ≡ fixed-point f (c .args .start) =
-      ends f falls-not (c .args .start) (c .loop-start .value) (c .loop-start .rounds) (c .value-answer .result) (c .loop-start .inv) (c .value-answer .ensures .answer) (c .if-answer-gt-HORIZON .left) (c .if-answer-value .taken) in
+    ends f falls-not (c .args .start) (c .loop-start .value) (c .loop-start .rounds) (c .value-answer .result) (c .loop-start .inv) (c .value-answer .ensures .answer) (c .if-answer-gt-HORIZON .left) (c .if-answer-value .taken) in
     record { value = is; steps = by-steps f falls-not (c .args .start) _ is; least = the-least f falls-not (c .args .start) _ is }

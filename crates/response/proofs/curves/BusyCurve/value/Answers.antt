@@ -14,9 +14,9 @@ pub returns : need.returns
 returns g c =
     let s = c .args .self .now in
     let own : c .load-own .result ≡ load-answer (model (g .S·Source) (g .L·Listed .source (s .own .now))) (c .args .x) =
-      c .load-own .ensures ∙ ap (λ x. load-answer (model (g .S·Source) x) (c .args .x)) (c .source .ensures) in
+    c .load-own .ensures ∙ ap (λ x. load-answer (model (g .S·Source) x) (c .args .x)) (c .source .ensures) in
     record {
       answer = omega arith;
       rising = busy-answer-rises (models (g .L·Listed) (g .S·Source) (s .above .now)) (models-lawful (g .L·Listed) (g .S·Source) (g .S·Source·met .lawful) (s .above .now))
-        (model (g .S·Source) (g .L·Listed .source (s .own .now))) (g .S·Source·met .lawful (g .L·Listed .source (s .own .now))) (s .blocking);
+          (model (g .S·Source) (g .L·Listed .source (s .own .now))) (g .S·Source·met .lawful (g .L·Listed .source (s .own .now))) (s .blocking);
     }
