@@ -113,7 +113,8 @@ module _ (p : Place) (upper : AllLawful (p .above)) (own : Laws (p .own)) (small
           let period = ended-fixed p upper own t rounds ends in
           let next : q + 1 ≡ suc q = add-one q in
           let gap-is : gap ≡ gap-answer (p .own .gap q) = g ∙ ap (λ k. gap-answer (p .own .gap k)) (as-it-is q (within-period q inside .0)) in
-          let work-is : p .own .work (q + 1) ≡ p .own .work (suc q) = ap (p .own .work) next in
-          (next-is ∙ ap (λ k. value-of (delay-search p q) + (p .own .work k - p .own .work q)) next ∙ ap (delay-start p) (sym next),
-           omega (arith, largest-more q (candidate p), upto .1, next-is, response-within p upper own t period q inside),
-           omega (arith, upto .2, rounds-more))
+          let work-is : p .own .work (q + 1) ≡ p .own .work (suc q) = ap (p .own .work) next in (
+            next-is ∙ ap (λ k. value-of (delay-search p q) + (p .own .work k - p .own .work q)) next ∙ ap (delay-start p) (sym next),
+            omega (arith, largest-more q (candidate p), upto .1, next-is, response-within p upper own t period q inside),
+            omega (arith, upto .2, rounds-more),
+          )

@@ -10,3 +10,4 @@ pub mod Runs
 pub mod AnswerLaws
 pub mod RowChecks
 pub mod Judging
+pub mod Responding

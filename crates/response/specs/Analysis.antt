@@ -42,10 +42,10 @@ Grounded p (late bound rounds) = Ends p
 Grounded p (none rounds) = NoFixedPoint p
 
 -- No lawful run outlasts the bound, if one is given for row m.
-abbrev pub Outlasts-none : List Model → ℕ → Response → Type 0
-Outlasts-none rows m (ok bound rounds) = NoLater rows m bound
-Outlasts-none rows m (late bound rounds) = NoLater rows m bound
-Outlasts-none rows m (none rounds) = Unit {0}
+abbrev pub NoRunOutlasts : List Model → ℕ → Response → Type 0
+NoRunOutlasts rows m (ok bound rounds) = NoLater rows m bound
+NoRunOutlasts rows m (late bound rounds) = NoLater rows m bound
+NoRunOutlasts rows m (none rounds) = Unit {0}
 
 -- What holds of the response, if the analysis gave one.
 abbrev pub OfResponse : (Response → Type 0) → Answer Response → Type 0

@@ -6,10 +6,10 @@ ghost use lib.ListN.{drop};
 ghost use Rattle.sources.specs.Answers.{answered};
 ghost use Rattle.sources.specs.Models.{model};
 ghost use Rattle.response.specs.Searches.{ended, horizon};
-ghost use Rattle.response.specs.Bounds.{longest-of, row-place, busy-search, judged-at, place};
+ghost use Rattle.response.specs.Bounds.{longest-of, row-place, busy-search, judged-at, place as place-of};
 ghost use Rattle.response.specs.Curves.{models, SmallJitters};
 ghost use Rattle.response.specs.Views.{fault-number, outcome-of};
-ghost use Rattle.response.specs.Analysis.{rows-answer, response-answer, OfResponse, Grounded, Outlasts-none};
+ghost use Rattle.response.specs.Analysis.{rows-answer, response-answer, OfResponse, Grounded, NoRunOutlasts};
 use crate::curves::Busy;
 use crate::curves::BusyCurve;
 use crate::curves::Delay;
@@ -99,6 +99,8 @@ pub fn respond<L: Listed<Of = S>, S: Source>(
     place: usize,
 ) -> Result<Outcome, ResponseFault>
     ensures answer { λ r. ⌜ answered fault-number outcome-of r ≡ response-answer (models L·Listed S·Source (now (rows .entry))) (map (L·Listed .deadline) (now (rows .entry))) place ⌝ }
+    ensures grounded { λ r. ⌜ OfResponse (Grounded (place-of (models L·Listed S·Source (now (rows .entry))) place)) (answered fault-number outcome-of r) ⌝ }
+    ensures holds { λ r. ⌜ OfResponse (NoRunOutlasts (models L·Listed S·Source (now (rows .entry))) place) (answered fault-number outcome-of r) ⌝ }
 {
     if place >= rows.len() {
         return Err(ResponseFault::Row);

@@ -53,27 +53,40 @@ add-blocking g c =
 
 pub add-all-rounds : need.add-all-rounds
 add-all-rounds g c =
-    omega (arith, c .rounds-all-rounds .ensures, all-within (the-place g (c .args .above .now) (c .args .source .now) (c .args .blocking)) (upper g (c .args .above .now) (c .args .source .now) (c .args .blocking)) (own g (c .args .above .now) (c .args .source .now) (c .args .blocking)) (c .pre .small .0) (c .args .end) (c .args .rounds) (c .pre .ends) (c .loop-q .q) (inside g (c .args .above .now) (c .args .source .now) (c .args .blocking) (c .args .end) (c .args .rounds) (c .pre .ends) (c .pre .small) (c .jitter-jitter .result) (c .count-q-end .result) (c .jitter-jitter .ensures) (c .count-q-end .ensures) (c .loop-q .q) (c .loop-q-test .taken))
-      (c .work-earlier .result) (c .work .result) (c .loop-q .start) (found-of (c .search-found .result)) (c .work-earlier .ensures) (c .work .ensures) (c .loop-q .inv .0) (c .search-found .ensures .value) (c .loop-q .all-rounds) (c .loop-q .inv .2))
+    omega (
+      arith,
+      c .rounds-all-rounds .ensures,
+      all-within (the-place g (c .args .above .now) (c .args .source .now) (c .args .blocking)) (upper g (c .args .above .now) (c .args .source .now) (c .args .blocking)) (own g (c .args .above .now) (c .args .source .now) (c .args .blocking)) (c .pre .small .0) (c .args .end) (c .args .rounds) (c .pre .ends) (c .loop-q .q) (inside g (c .args .above .now) (c .args .source .now) (c .args .blocking) (c .args .end) (c .args .rounds) (c .pre .ends) (c .pre .small) (c .jitter-jitter .result) (c .count-q-end .result) (c .jitter-jitter .ensures) (c .count-q-end .ensures) (c .loop-q .q) (c .loop-q-test .taken))
+          (c .work-earlier .result) (c .work .result) (c .loop-q .start) (found-of (c .search-found .result)) (c .work-earlier .ensures) (c .work .ensures) (c .loop-q .inv .0) (c .search-found .ensures .value) (c .loop-q .all-rounds) (c .loop-q .inv .2),
+    )
 
 pub add-start : need.add-start
 add-start g c =
-    omega (arith, c .value .ensures, next-within (the-place g (c .args .above .now) (c .args .source .now) (c .args .blocking)) (upper g (c .args .above .now) (c .args .source .now) (c .args .blocking)) (own g (c .args .above .now) (c .args .source .now) (c .args .blocking)) (c .pre .small .0) (c .args .end) (c .args .rounds) (c .pre .ends) (c .loop-q .q) (inside g (c .args .above .now) (c .args .source .now) (c .args .blocking) (c .args .end) (c .args .rounds) (c .pre .ends) (c .pre .small) (c .jitter-jitter .result) (c .count-q-end .result) (c .jitter-jitter .ensures) (c .count-q-end .ensures) (c .loop-q .q) (c .loop-q-test .taken))
-      (c .work-earlier .result) (c .work .result) (c .loop-q .start) (found-of (c .search-found .result)) (c .work-earlier .ensures) (c .work .ensures) (c .loop-q .inv .0) (c .search-found .ensures .value))
+    omega (
+      arith,
+      c .value .ensures,
+      next-within (the-place g (c .args .above .now) (c .args .source .now) (c .args .blocking)) (upper g (c .args .above .now) (c .args .source .now) (c .args .blocking)) (own g (c .args .above .now) (c .args .source .now) (c .args .blocking)) (c .pre .small .0) (c .args .end) (c .args .rounds) (c .pre .ends) (c .loop-q .q) (inside g (c .args .above .now) (c .args .source .now) (c .args .blocking) (c .args .end) (c .args .rounds) (c .pre .ends) (c .pre .small) (c .jitter-jitter .result) (c .count-q-end .result) (c .jitter-jitter .ensures) (c .count-q-end .ensures) (c .loop-q .q) (c .loop-q-test .taken))
+          (c .work-earlier .result) (c .work .result) (c .loop-q .start) (found-of (c .search-found .result)) (c .work-earlier .ensures) (c .work .ensures) (c .loop-q .inv .0) (c .search-found .ensures .value),
+    )
 
 pub add-jitter : need.add-jitter
 add-jitter g c =
-    omega (arith, c .value .ensures, next-within (the-place g (c .args .above .now) (c .args .source .now) (c .args .blocking)) (upper g (c .args .above .now) (c .args .source .now) (c .args .blocking)) (own g (c .args .above .now) (c .args .source .now) (c .args .blocking)) (c .pre .small .0) (c .args .end) (c .args .rounds) (c .pre .ends) (c .loop-q .q) (inside g (c .args .above .now) (c .args .source .now) (c .args .blocking) (c .args .end) (c .args .rounds) (c .pre .ends) (c .pre .small) (c .jitter-jitter .result) (c .count-q-end .result) (c .jitter-jitter .ensures) (c .count-q-end .ensures) (c .loop-q .q) (c .loop-q-test .taken))
-      (c .work-earlier .result) (c .work .result) (c .loop-q .start) (found-of (c .search-found .result)) (c .work-earlier .ensures) (c .work .ensures) (c .loop-q .inv .0) (c .search-found .ensures .value))
+    omega (
+      arith,
+      c .value .ensures,
+      next-within (the-place g (c .args .above .now) (c .args .source .now) (c .args .blocking)) (upper g (c .args .above .now) (c .args .source .now) (c .args .blocking)) (own g (c .args .above .now) (c .args .source .now) (c .args .blocking)) (c .pre .small .0) (c .args .end) (c .args .rounds) (c .pre .ends) (c .loop-q .q) (inside g (c .args .above .now) (c .args .source .now) (c .args .blocking) (c .args .end) (c .args .rounds) (c .pre .ends) (c .pre .small) (c .jitter-jitter .result) (c .count-q-end .result) (c .jitter-jitter .ensures) (c .count-q-end .ensures) (c .loop-q .q) (c .loop-q-test .taken))
+          (c .work-earlier .result) (c .work .result) (c .loop-q .start) (found-of (c .search-found .result)) (c .work-earlier .ensures) (c .work .ensures) (c .loop-q .inv .0) (c .search-found .ensures .value),
+    )
 
 pub loop-q-again : need.loop-q-again
 loop-q-again g c =
     let more = judged-more (the-place g (c .args .above .now) (c .args .source .now) (c .args .blocking)) (upper g (c .args .above .now) (c .args .source .now) (c .args .blocking)) (own g (c .args .above .now) (c .args .source .now) (c .args .blocking)) (c .pre .small .0) (c .args .end) (c .args .rounds) (c .pre .ends) (c .loop-q .q) (inside g (c .args .above .now) (c .args .source .now) (c .args .blocking) (c .args .end) (c .args .rounds) (c .pre .ends) (c .pre .small) (c .jitter-jitter .result) (c .count-q-end .result) (c .jitter-jitter .ensures) (c .count-q-end .ensures) (c .loop-q .q) (c .loop-q-test .taken))
-      (c .work-earlier .result) (c .work .result) (c .loop-q .start) (found-of (c .search-found .result)) (c .work-earlier .ensures) (c .work .ensures) (c .loop-q .inv .0) (c .search-found .ensures .value)
-      (c .loop-q .bound) (c .loop-q .all-rounds) (c .jitter-jitter .result) (c .gap .result) (c .loop-q .inv) (c .pre .small .1) (c .jitter-jitter .ensures) (c .gap .ensures) in
-    (ap (λ v. v + (c .work .result - c .work-earlier .result)) (c .value .ensures) ∙ more .0,
-     omega (arith, more .1, c .value .ensures),
-     omega (arith, more .2, c .rounds-all-rounds .ensures))
+    (c .work-earlier .result) (c .work .result) (c .loop-q .start) (found-of (c .search-found .result)) (c .work-earlier .ensures) (c .work .ensures) (c .loop-q .inv .0) (c .search-found .ensures .value)
+    (c .loop-q .bound) (c .loop-q .all-rounds) (c .jitter-jitter .result) (c .gap .result) (c .loop-q .inv) (c .pre .small .1) (c .jitter-jitter .ensures) (c .gap .ensures) in (
+      ap (λ v. v + (c .work .result - c .work-earlier .result)) (c .value .ensures) ∙ more .0,
+      omega (arith, more .1, c .value .ensures),
+      omega (arith, more .2, c .rounds-all-rounds .ensures),
+    )
 
 pub returns-then-bound-deadline : need.returns-then-bound-deadline
 returns-then-bound-deadline g c =
