@@ -1,0 +1,11 @@
+// A register of the messages on one bus, in memory that the caller lends.
+mod slot;
+mod uses;
+
+pub use slot::Slot;
+pub use slot::SlotListed;
+pub use uses::Answer;
+pub use uses::HostFault;
+pub use uses::RegisterFault;
+pub use uses::RowFaultInto;
+pub use uses::Use;
