@@ -1,5 +1,6 @@
 // The worked cases: shown of the definitions by one proof, and worked out again by the calls.
 ghost use Rattle.worked.specs.Cases.{WorkedCases};
+ghost use Rattle.worked.specs.Reached.{BothReached};
 use frames::Extended;
 use frames::ExtendedFormat;
 use frames::Standard;
@@ -23,6 +24,11 @@ use std::error::AnyError;
 // The worked cases hold of the definitions that the contracts cite.
 fn cases_hold()
     ensures { λ _. ⌜ WorkedCases ⌝ }
+{}
+
+// Lawful runs of the two rows reach responses of 229 in the upper row and of 230 in the lower, so that some runs are lawful.
+fn bounds_are_reached()
+    ensures { λ _. ⌜ BothReached ⌝ }
 {}
 
 fn show_work(rt: &impl Print, source: &impl Source, most: u32) -> Result<(), AnyError> {
@@ -114,6 +120,7 @@ fn show_refusal(rt: &impl Print) -> Result<(), AnyError> {
 
 fn main(rt: LibcRuntime) -> Result<(), AnyError> {
     cases_hold();
+    bounds_are_reached();
     show_cyclic(&rt)?;
     show_burst(&rt)?;
     show_refusal(&rt)
