@@ -1,1 +1,2 @@
 pub mod WorkedProofs
+pub mod ReachedProofs

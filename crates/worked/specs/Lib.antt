@@ -1,1 +1,3 @@
 pub mod Cases
+pub mod Reached
+pub mod Words

@@ -1,11 +1,20 @@
 // The worked cases: shown of the definitions by one proof, and worked out again by the calls.
+ghost use mathlib.Core.Path.{_≡_};
+ghost use Rattle.response.specs.Views.{verdict-of};
 ghost use Rattle.worked.specs.Cases.{WorkedCases};
+ghost use Rattle.worked.specs.Reached.{BothReached};
+ghost use Rattle.worked.specs.Words.{verdict-word};
 use frames::Extended;
 use frames::ExtendedFormat;
 use frames::Standard;
 use frames::StandardFormat;
 use frames::U16Identifier;
 use frames::U32Identifier;
+use response::Outcome;
+use response::Row;
+use response::RowListed;
+use response::Verdict;
+use response::respond;
 use sources::Burst;
 use sources::BurstEntry;
 use sources::BurstSource;
@@ -23,6 +32,11 @@ use std::error::AnyError;
 // The worked cases hold of the definitions that the contracts cite.
 fn cases_hold()
     ensures { λ _. ⌜ WorkedCases ⌝ }
+{}
+
+// Lawful runs of the two rows reach responses of 229 in the upper row and of 230 in the lower, so that some runs are lawful.
+fn bounds_are_reached()
+    ensures { λ _. ⌜ BothReached ⌝ }
 {}
 
 fn show_work(rt: &impl Print, source: &impl Source, most: u32) -> Result<(), AnyError> {
@@ -112,9 +126,102 @@ fn show_refusal(rt: &impl Print) -> Result<(), AnyError> {
     Ok(())
 }
 
+// A row of a table: a cyclic source in the standard format, with its deadline.
+type StandardRow = Row<Cyclic<Standard, u16>>;
+
+// The word for a verdict.
+fn word(verdict: Verdict) -> &'static str
+    ensures { λ r. ⌜ now r ≡ verdict-word (verdict-of verdict) ⌝ }
+{
+    match verdict {
+        Verdict::Ok => "ok",
+        Verdict::Late => "late",
+        Verdict::None => "none",
+    }
+}
+
+// Shows a row and makes it.
+fn enter(
+    rt: &impl Print,
+    identifier: u16,
+    period: u32,
+    deadline: u32,
+    payloads: &[u8],
+) -> Result<StandardRow, AnyError> {
+    print!(
+        rt,
+        "  enter {identifier}: period {period}, deadline {deadline}, payloads"
+    )?;
+    for payload in payloads {
+        print!(rt, " {payload}")?;
+    }
+    println!(rt)?;
+    match Cyclic::new(Standard, identifier, period, payloads) {
+        Ok(source) => Ok(Row { source, deadline }),
+        Err(_) => Err("a row of a table was refused".into()),
+    }
+}
+
+// Shows the identifier of a row, its bound, its deadline, the verdict and the round count.
+fn show_outcome(rt: &impl Print, row: &StandardRow, outcome: &Outcome) -> Result<(), AnyError> {
+    let identifier = row.source.identifier();
+    let deadline = row.deadline;
+    let bound = outcome.bound();
+    let verdict = word(outcome.verdict());
+    let rounds = outcome.rounds();
+    println!(rt, "  {identifier} {bound} {deadline} {verdict} {rounds}")?;
+    Ok(())
+}
+
+// Judges each row of a table, highest priority first.
+fn judge(rt: &impl Print, rows: &[StandardRow]) -> Result<(), AnyError> {
+    println!(rt, "  judge")?;
+    for place in 0..rows.len() {
+        match respond(rows, place) {
+            Ok(outcome) => show_outcome(rt, &rows[place], &outcome)?,
+            Err(_) => return Err("a row of a table was not judged".into()),
+        }
+    }
+    Ok(())
+}
+
+fn judge_two_rows(rt: &impl Print) -> Result<(), AnyError> {
+    println!(rt, "two rows on a standard bus")?;
+    let rows = [
+        enter(rt, 16, 160, 235, &[4])?,
+        enter(rt, 32, 240, 240, &[1, 8, 0])?,
+    ];
+    judge(rt, &rows)
+}
+
+fn judge_three_rows(rt: &impl Print) -> Result<(), AnyError> {
+    println!(rt, "three rows on a standard bus")?;
+    let rows = [
+        enter(rt, 16, 200, 200, &[2, 4, 1])?,
+        enter(rt, 32, 350, 350, &[2])?,
+        enter(rt, 48, 1_000, 1_000, &[5])?,
+    ];
+    judge(rt, &rows)
+}
+
+fn judge_full_bus(rt: &impl Print) -> Result<(), AnyError> {
+    println!(
+        rt,
+        "one row that fills a standard bus, alone and then above another"
+    )?;
+    let full = enter(rt, 16, 135, 135, &[8])?;
+    judge(rt, &[full])?;
+    let rows = [full, enter(rt, 32, 1_000, 1_000, &[0])?];
+    judge(rt, &rows)
+}
+
 fn main(rt: LibcRuntime) -> Result<(), AnyError> {
     cases_hold();
+    bounds_are_reached();
     show_cyclic(&rt)?;
     show_burst(&rt)?;
-    show_refusal(&rt)
+    show_refusal(&rt)?;
+    judge_two_rows(&rt)?;
+    judge_three_rows(&rt)?;
+    judge_full_bus(&rt)
 }
