@@ -1,2 +1,3 @@
 pub mod MoveLaws
 pub mod FindLaws
+pub mod UnsettleLaws

@@ -1,10 +1,13 @@
 -- Moving rows within memory. Assumes nothing.
 use mathlib.Core.Path.{_≡_, refl, sym, ap, ap₂, _∙_}
-use mathlib.Core.List.{List, [], _∷_, _++_}
-use Prim.Native.Nat.{ℕ, zero, suc, _+_, _-_, _<_, _≤_}
+use mathlib.Core.List.{List, [], _∷_, _++_, map}
+use Prim.Native.Nat.{ℕ, zero, suc, _+_, _-_, _*_, _^_, _<_, _≤_}
+use native.Mathlib.Nat.{mul-le-mul-right}
 use native.Mathlib.Omega.{arith}
+use mir.Syntax.{w64}
+use mir.Val.{Fits}
 use lib.ListN.{length, getD, set, take, drop}
-use Rattle.std.proofs.shelf.Lists.{append-assoc, length-append, length-take-le, set-at, take-more, drop-more, getD-append-right, getD-drop, length-drop, take-append-drop}
+use Rattle.std.proofs.shelf.Lists.{append-assoc, length-append, length-take-le, set-at, take-more, drop-more, getD-append-right, getD-drop, length-drop, take-append-drop, getD-map}
 
 -- Places from place up to i hold the first of xs, and all others what they held.
 abbrev pub laid-out : {X : Type 0} → ℕ → ℕ → List X → List X → List X
@@ -63,3 +66,13 @@ pub moved-up : {X : Type 0} (place i : ℕ) (e : List X) (d : X) → place ≤ i
 moved-up place i e d l =
     let there : (place + 1) + (i - place) ≡ i + 1 = omega arith in
     getD-drop (place + 1) e (i - place) d ∙ ap (λ k. getD e k d) there
+
+-- The offset of a place within memory fits 64 bits.
+pub offset-fits : (i n size : ℕ) → i ≤ n → n * size < 2 ^ 63 → Fits w64 (i * size)
+offset-fits i n size l small = record { fits = omega (arith, mul-le-mul-right size l) }
+
+-- What a function makes of the rows from a place on, at one of them.
+pub mapped-at : {X : Type 0} (f : X → X) (place i : ℕ) (e : List X) (x : X) (d : X) → place ≤ i → i < length e → x ≡ getD e i x → f x ≡ getD (map f (drop place e)) (i - place) d
+mapped-at f place i e x d from inside is =
+    let there : place + (i - place) ≡ i = omega arith in
+    sym (getD-map f (drop place e) (i - place) x d (omega (arith, length-drop place e)) ∙ ap f (getD-drop place e (i - place) x ∙ ap (λ k. getD e k x) there ∙ sym is))

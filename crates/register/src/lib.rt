@@ -1,6 +1,7 @@
 // A register of the messages on one bus, in memory that the caller lends.
 mod slot;
 mod table;
+mod unsettle;
 mod uses;
 
 pub use slot::Slot;

@@ -1,4 +1,7 @@
 // A place of the register's memory.
+ghost use mathlib.Core.Path.{_≡_};
+ghost use Rattle.std.specs.declared.option.Option.the-variants.{None as Nothing};
+ghost use Rattle.register.specs.Slots.{with-outcome};
 use response::Listed;
 use response::Outcome;
 use response::Row;
@@ -10,6 +13,18 @@ use sources::Source;
 pub struct Slot<S> {
     pub row: Row<S>,
     pub outcome: Option<Outcome>,
+}
+
+impl<S: Copy> Slot<S> {
+    // The row without an outcome.
+    pub fn unsettled(self) -> Slot<S>
+        ensures { λ r. ⌜ r ≡ with-outcome Nothing self ⌝ }
+    {
+        Slot {
+            row: self.row,
+            outcome: None,
+        }
+    }
 }
 
 pub impl<S: Source> Listed for Slot<S> as SlotListed {
