@@ -1,3 +1,4 @@
 pub mod MoveLaws
 pub mod FindLaws
 pub mod UnsettleLaws
+pub mod ListedLaws

@@ -6,7 +6,7 @@ use Prim.Native.Nat.{ℕ, suc, _+_, _-_, _<_, _≤_, max}
 use native.Mathlib.Omega.{arith}
 use lib.Dec.{eqb}
 use lib.ListN.{length, getD, set, take, drop}
-use Rattle.std.proofs.shelf.Lists.{append-assoc, length-take-le, set-at, getD-at, take-more, drop-more, getD-take, drop-all, take-append-drop}
+use Rattle.std.proofs.shelf.Lists.{append-assoc, length-take-le, set-at, getD-at, take-more, drop-more, getD-take, drop-all, take-append-drop, drop-drop, drop-at, take-at}
 use Rattle.std.proofs.shelf.Tests.{eq-eqb, ne-eqb}
 use Rattle.register.specs.Tables.{longest, unsettle-above}
 
@@ -65,3 +65,15 @@ module _ {A : Type 0} (frame : A → ℕ) (unsettled : A → A) (e : List A) (pl
 
       pub longest-next : longest frame (drop j (take place e)) ≡ max (frame a) (longest frame (drop (j + 1) (take place e)))
       longest-next = ap (longest frame) (next-row a) ∙ ap (λ x. max (frame x) (longest frame (drop (j + 1) (take place e)))) (sym is)
+
+-- Unsettling keeps the number of rows.
+pub length-unsettle : {A : Type 0} (frame : A → ℕ) (unsettled : A → A) (rows : List A) (before after : ℕ) → length (unsettle-above frame unsettled rows before after) ≡ length rows
+length-unsettle frame unsettled [] before after = refl
+length-unsettle frame unsettled (a ∷ rows) before after = ap suc (length-unsettle frame unsettled rows before after)
+
+-- Memory whose first rows are others of the same number, from an end on.
+pub drop-past : {A : Type 0} (u e : List A) (place end : ℕ) → length u ≡ place → place ≤ end → drop end (u ++ drop place e) ≡ drop end e
+drop-past u e place end count l =
+    let there : place + (end - place) ≡ end = omega arith in
+    ap (λ n. drop n (u ++ drop place e)) (sym there) ∙ sym (drop-drop (end - place) place (u ++ drop place e))
+    ∙ ap (drop (end - place)) (drop-at u (drop place e) place count) ∙ drop-drop (end - place) place e ∙ ap (λ n. drop n e) there

@@ -1,7 +1,8 @@
 -- The register's rows in memory: slots, with the outcomes that settle stored.
 use mathlib.Core.Bool.{true, false, not}
 use mathlib.Core.List.{List, [], _∷_, _++_, map}
-use Prim.Native.Nat.{ℕ}
+use Prim.Native.Nat.{ℕ, _-_}
+use lib.Dec.{ltb}
 use lib.ListN.{length, getD, take, drop}
 use Rattle.std.specs.declared.option.Option.{Option}
 use Rattle.std.specs.declared.option.Option.the-variants.{Some, None}
@@ -10,12 +11,13 @@ use Rattle.sources.specs.declared.source.Entry as entry
 use Rattle.sources.specs.declared.source.Source as source
 use Rattle.response.specs.declared.outcome.Outcome.{Outcome}
 use Rattle.response.specs.declared.outcome.Outcome.the-variants as outcomes
-use Rattle.response.specs.Bounds.{Response, ok, late, none, response, place}
+use Rattle.response.specs.declared.listed.Row.{Row}
+use Rattle.response.specs.Bounds.{Response, ok, late, none, bound-of, response, place}
 use Rattle.response.specs.Views.{outcome-of}
 use Rattle.response.specs.Analysis.{row-checks}
 use Rattle.register.specs.declared.slot.Slot.{Slot}
-use Rattle.register.specs.Tables.{change-at}
-use Rattle.register.specs.Calls.{Kind, models, place-in, is-in}
+use Rattle.register.specs.Tables.{change-at, longest, unsettle-above}
+use Rattle.register.specs.Calls.{Kind, frame, models, place-in, is-in, enter-rows, amend-rows, withdraw-rows}
 
 -- The outcome that stands for a response.
 abbrev pub outcome-for : Response → Outcome
@@ -69,6 +71,44 @@ standing memory = take (memory .used) (memory .places)
 -- The memory with other rows: places past the last row keep what they hold.
 abbrev pub laid : {S : Type 0} → Memory S → List (Slot S) → Memory S
 laid memory rows = record { places = rows ++ drop (length rows) (memory .places); used = length rows }
+
+-- How many rows there are after a call.
+abbrev pub count-of : {A : Type 0} → Answer (List A) → Answer ℕ
+count-of (made rows) = made (length rows)
+count-of (refused n) = refused n
+
+module _ {S : Type 0} (names : entry.Ghosts S) (sources : source.Ghosts S) where
+  -- The calls on the rows in memory.
+  abbrev pub enter-memory : Row S → Memory S → Answer (List (Slot S))
+  enter-memory row memory = enter-rows names sources slots (length (memory .places)) (row .source) (row .deadline) (standing memory)
+
+  abbrev pub amend-memory : Row S → Memory S → Answer (List (Slot S))
+  amend-memory row memory = amend-rows names sources slots (row .source) (row .deadline) (standing memory)
+
+  abbrev pub withdraw-memory : ℕ → Memory S → Answer (List (Slot S))
+  withdraw-memory id memory = withdraw-rows names sources slots id (standing memory)
+
+  abbrev pub settle-memory : ℕ → Memory S → Answer (List (Slot S))
+  settle-memory id memory = settle-slots names sources id (standing memory)
+
+  abbrev pub look-up-memory : ℕ → Memory S → Answer Response
+  look-up-memory id memory = look-up-slots names sources id (standing memory)
+
+module _ {S : Type 0} (names : entry.Ghosts S) (sources : source.Ghosts S) where
+  -- Memory in which the rows from a place up to an end are new: what a change there unsettles is unsettled.
+  abbrev pub unsettled-memory : ℕ → ℕ → ℕ → List (Slot S) → List (Slot S)
+  unsettled-memory place end before memory =
+      let after : List (Slot S) = take (end - place) (drop place memory) in
+      unsettle-above (frame names sources slots) (with-outcome None) (take place memory) before (longest (frame names sources slots) after)
+      ++ (map (with-outcome None) after ++ drop end memory)
+
+-- The bound that a slot shows, and 0 where it shows none.
+abbrev pub bound-shown : {S : Type 0} → Slot S → ℕ
+bound-shown s = elim (s .outcome) [ Some o ↦ bound-of (outcome-of o) | None ↦ 0 ]
+
+-- Chart: 32 a list shorter than the row count; otherwise one bound a row in their order, and the rest of the list as it was.
+abbrev pub chart-rows : {S : Type 0} → List (Slot S) → List ℕ → Answer (List ℕ)
+chart-rows rows list = checked ((ltb (length list) (length rows), 32) ∷ []) (map bound-shown rows ++ drop (length rows) list)
 
 -- The memory after a call: other rows, or as it was where the call is refused.
 abbrev pub stored : {S : Type 0} → Memory S → Answer (List (Slot S)) → Memory S

@@ -6,6 +6,7 @@ use response::Listed;
 use response::Outcome;
 use response::Row;
 use response::RowClone;
+use sources::Entry;
 use sources::Source;
 
 // A row and, where it is settled, its outcome.
@@ -24,6 +25,14 @@ impl<S: Copy> Slot<S> {
             row: self.row,
             outcome: None,
         }
+    }
+}
+
+pub impl<S: Source> Entry for Slot<S> as SlotEntry {
+    ghost identifier = { λ s. S·Entry .identifier (s .row .source) };
+
+    fn identifier(&self) -> u32 {
+        self.row.source.identifier()
     }
 }
 

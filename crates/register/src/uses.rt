@@ -2,9 +2,11 @@
 ghost use mathlib.Core.Path.{_≡_};
 ghost use Rattle.register.specs.declared.uses.RegisterFault.the-variants.{Row as InRow};
 ghost use Rattle.register.specs.Faults.{fault-number, host-number};
+ghost use Rattle.response.specs.Views.{fault-number as response-number};
 use response::Outcome;
 use response::OutcomeDebug;
 use response::OutcomePartialEq;
+use response::ResponseFault;
 use response::Row;
 use response::RowClone;
 use sources::RowFault;
@@ -62,6 +64,18 @@ pub impl From<RowFault> for RegisterFault as RowFaultInto {
 
     fn from(fault: RowFault) -> RegisterFault {
         RegisterFault::Row(fault)
+    }
+}
+
+pub impl From<ResponseFault> for RegisterFault as ResponseFaultInto {
+    ghost converts = { λ f r. fault-number r ≡ response-number f };
+
+    fn from(fault: ResponseFault) -> RegisterFault {
+        match fault {
+            ResponseFault::Deadline => RegisterFault::Deadline,
+            ResponseFault::Jitter => RegisterFault::Jitter,
+            ResponseFault::Row => RegisterFault::Absent,
+        }
     }
 }
 

@@ -39,7 +39,7 @@ fn check_rows<L: Listed<Of = S>, S: Source>(rows: &[L]) -> Result<(), ResponseFa
 }
 
 // The longest frame of the rows, or 0.
-fn longest_frame<L: Listed<Of = S>, S: Source>(rows: &[L]) -> u32
+pub fn longest_frame<L: Listed<Of = S>, S: Source>(rows: &[L]) -> u32
     ensures { λ r. ⌜ r ≡ longest-of (models L·Listed S·Source (now (rows .entry))) ⌝ }
 {
     let mut longest = 0;

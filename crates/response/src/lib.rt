@@ -5,6 +5,7 @@ mod fixed_point;
 mod listed;
 mod outcome;
 
+pub use analysis::longest_frame;
 pub use analysis::respond;
 pub use fixed_point::Curve;
 pub use fixed_point::Found;
