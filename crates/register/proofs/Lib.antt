@@ -1,4 +1,14 @@
+pub mod TableLaws
+pub mod CallLaws
+pub mod Invariant
+pub mod ReferenceLaws
+pub mod ShownLaws
+pub mod KeptLaws
+pub mod OrderLaws
+pub mod SettleLaws
+pub mod Elsewhere
+pub mod Promised
 pub mod MoveLaws
 pub mod FindLaws
 pub mod UnsettleLaws
-pub mod ListedLaws
+pub mod MemoryLaws

@@ -1,4 +1,5 @@
 // A register of the messages on one bus, in memory that the caller lends.
+mod calls;
 mod slot;
 mod table;
 mod unsettle;
@@ -9,5 +10,6 @@ pub use slot::SlotListed;
 pub use uses::Answer;
 pub use uses::HostFault;
 pub use uses::RegisterFault;
+pub use uses::ResponseFaultInto;
 pub use uses::RowFaultInto;
 pub use uses::Use;
