@@ -11,7 +11,7 @@ use Rattle.sources.specs.declared.source.Entry as entry
 use Rattle.sources.specs.declared.source.Source as source
 use Rattle.sources.proofs.AnswerChecks.{NoFault}
 use Rattle.response.specs.Searches.{horizon}
-use Rattle.register.specs.Calls.{Kind, is-in}
+use Rattle.register.specs.Calls.{Kind, is-in, enter-checks, amend-checks, withdraw-checks}
 
 -- What holds of an answer, as each check passes or some check does not.
 pub checked-cases : {V : Type 0} (P : Answer V → Type 0) (cs : List (Bool × ℕ)) (v : V) → (NoFault cs → P (made v)) → ((n : ℕ) → P (refused n)) → P (checked cs v)
@@ -29,21 +29,6 @@ within low high n e =
     (ltb-false n low (parts .0), ltb-false high n (parts .1))
 
 module _ {S A : Type 0} (names : entry.Ghosts S) (sources : source.Ghosts S) (kind : Kind S A) where
-  -- The checks of enter.
-  abbrev pub enter-checks : ℕ → S → ℕ → List A → List (Bool × ℕ)
-  enter-checks places s deadline rows =
-      (outside 1 horizon deadline, 21) ∷ (ltb horizon (sources .jitter s), 22) ∷ (is-in names sources kind (names .identifier s) rows, 23)
-      ∷ (leb 256 (length rows) || leb places (length rows), 24) ∷ []
-
-  -- The checks of amend.
-  abbrev pub amend-checks : S → ℕ → List A → List (Bool × ℕ)
-  amend-checks s deadline rows =
-      (outside 1 horizon deadline, 21) ∷ (ltb horizon (sources .jitter s), 22) ∷ (not (is-in names sources kind (names .identifier s) rows), 25) ∷ []
-
-  -- The checks of withdraw.
-  abbrev pub withdraw-checks : ℕ → List A → List (Bool × ℕ)
-  withdraw-checks id rows = (not (is-in names sources kind id rows), 25) ∷ []
-
   -- What passes the checks of enter.
   pub record EnterPassed (places : ℕ) (s : S) (deadline : ℕ) (rows : List A) : Type 0 where
     pub low : 1 ≤ deadline
@@ -61,7 +46,7 @@ module _ {S A : Type 0} (names : entry.Ghosts S) (sources : source.Ghosts S) (ki
     pub has : is-in names sources kind (names .identifier s) rows ≡ true
 
   -- Where no check of enter finds a fault, each of them passes.
-  pub enter-passed : (places : ℕ) (s : S) (deadline : ℕ) (rows : List A) → NoFault (enter-checks places s deadline rows) → EnterPassed places s deadline rows
+  pub enter-passed : (places : ℕ) (s : S) (deadline : ℕ) (rows : List A) → NoFault (enter-checks names sources kind places s deadline rows) → EnterPassed places s deadline rows
   enter-passed places s deadline rows passed =
       let range = within 1 horizon deadline (passed .0) in
       let full = or-parts (leb 256 (length rows)) (leb places (length rows)) (passed .1 .1 .1 .0) in
@@ -75,7 +60,7 @@ module _ {S A : Type 0} (names : entry.Ghosts S) (sources : source.Ghosts S) (ki
       }
 
   -- Where no check of amend finds a fault, each of them passes.
-  pub amend-passed : (s : S) (deadline : ℕ) (rows : List A) → NoFault (amend-checks s deadline rows) → AmendPassed s deadline rows
+  pub amend-passed : (s : S) (deadline : ℕ) (rows : List A) → NoFault (amend-checks names sources kind s deadline rows) → AmendPassed s deadline rows
   amend-passed s deadline rows passed =
       let range = within 1 horizon deadline (passed .0) in
       record {
@@ -86,5 +71,5 @@ module _ {S A : Type 0} (names : entry.Ghosts S) (sources : source.Ghosts S) (ki
       }
 
   -- Where no check of withdraw finds a fault, there is such a row.
-  pub withdraw-passed : (id : ℕ) (rows : List A) → NoFault (withdraw-checks id rows) → is-in names sources kind id rows ≡ true
+  pub withdraw-passed : (id : ℕ) (rows : List A) → NoFault (withdraw-checks names sources kind id rows) → is-in names sources kind id rows ≡ true
   withdraw-passed id rows passed = not-false (is-in names sources kind id rows) (passed .0)

@@ -26,7 +26,7 @@ use Rattle.register.specs.Slots.{slots, look-up-slots}
 use Rattle.register.specs.Steps.{changes, register-step, register-after}
 use Rattle.register.specs.Promises.{SameElsewhere}
 use Rattle.register.proofs.TableLaws.{Rises, same-has, same-rises, changed-keeps}
-use Rattle.register.proofs.CallLaws.{enter-checks}
+use Rattle.register.specs.Calls.{enter-checks}
 use Rattle.register.proofs.Invariant.{InRange, Good, good-empty, good-after}
 use Rattle.register.proofs.ReferenceLaws.{rows-pass}
 use Rattle.register.proofs.ShownLaws.{shown-in, shown-is}

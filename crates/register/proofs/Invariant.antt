@@ -26,10 +26,10 @@ use Rattle.register.specs.declared.slot.Slot.{Slot}
 use Rattle.register.specs.Tables.{longest, unsettle-above, change-at}
 use Rattle.register.specs.declared.uses.Use.{Use}
 use Rattle.register.specs.declared.uses.Use.the-variants.{Enter, Amend, Withdraw, Settle, LookUp}
-use Rattle.register.specs.Calls.{identifier, frame, models, place-in, is-in, become}
+use Rattle.register.specs.Calls.{identifier, frame, models, place-in, is-in, become, enter-checks, amend-checks, withdraw-checks}
 use Rattle.register.specs.Slots.{slots, outcome-for, with-outcome, response-at, look-up-slots}
 use Rattle.register.specs.Steps.{changes, shows, register-step, register-after}
-use Rattle.register.proofs.CallLaws.{checked-cases, enter-checks, amend-checks, withdraw-checks, EnterPassed, AmendPassed, enter-passed, amend-passed}
+use Rattle.register.proofs.CallLaws.{checked-cases, EnterPassed, AmendPassed, enter-passed, amend-passed}
 use Rattle.register.proofs.TableLaws.{AllOf, Rises, longest-append, longest-changed, change-at-keeps, changed-keeps, same-rises, same-all, same-length, all-append, all-take, all-drop, insert-rises, replace-rises, remove-rises, place-inside}
 
 -- A stored outcome is a response, or there is none.

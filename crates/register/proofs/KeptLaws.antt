@@ -17,12 +17,12 @@ use Rattle.response.specs.Bounds.{Response}
 use Rattle.register.specs.declared.slot.Slot.{Slot}
 use Rattle.register.specs.declared.uses.Use.the-variants.{Enter, Amend, Withdraw, Settle, LookUp}
 use Rattle.register.specs.Tables.{starts-with, longest, unsettle-above}
-use Rattle.register.specs.Calls.{identifier, frame, place-in, become}
+use Rattle.register.specs.Calls.{identifier, frame, place-in, become, enter-checks, amend-checks, withdraw-checks}
 use Rattle.register.specs.Slots.{slots, with-outcome, first-shows, look-up-slots}
 use Rattle.register.specs.Steps.{done, changes}
 use Rattle.register.specs.Promises.{Shows, longest-below, KeptExactly}
 use Rattle.register.proofs.TableLaws.{place-pass, place-stop, place-lower, place-within, either-keeps, longest-append, longest-changed}
-use Rattle.register.proofs.CallLaws.{checked-cases, enter-checks, amend-checks, withdraw-checks}
+use Rattle.register.proofs.CallLaws.{checked-cases}
 use Rattle.register.proofs.ShownLaws.{shown-in}
 
 module _ {S : Type 0} (names : entry.Ghosts S) (sources : source.Ghosts S) where

@@ -12,3 +12,5 @@ pub mod MoveLaws
 pub mod FindLaws
 pub mod UnsettleLaws
 pub mod MemoryLaws
+pub mod CallAnswers
+pub mod SettleAnswers

@@ -8,12 +8,12 @@ use native.Mathlib.Numerals.{add-one}
 use native.Mathlib.Omega.{arith}
 use lib.ListN.{length, getD, set, take, drop}
 use Rattle.std.specs.declared.option.Option.the-variants.{None}
-use Rattle.std.proofs.shelf.Lists.{append-assoc, length-append, length-map, length-take, length-take-le, length-drop, take-all, take-take, take-at, drop-at, drop-take, set-split, take-append-drop, drop-drop}
+use Rattle.std.proofs.shelf.Lists.{append-assoc, length-append, length-map, length-take, length-take-le, length-drop, take-all, take-take, take-at, drop-at, drop-take, set-split, take-append-drop, drop-drop, drop-more, getD-take}
 use Rattle.std.proofs.shelf.Tests.{cases-lt}
 use Rattle.sources.specs.declared.source.Entry as entry
 use Rattle.sources.specs.declared.source.Source as source
 use Rattle.register.specs.declared.slot.Slot.{Slot}
-use Rattle.register.specs.Tables.{starts-with, longest, unsettle-above, changed-from}
+use Rattle.register.specs.Tables.{starts-with, longest, unsettle-above, changed-from, change-at, on-first}
 use Rattle.register.specs.Calls.{frame, become}
 use Rattle.register.specs.Slots.{slots, with-outcome, Memory, laid, unsettled-memory}
 use Rattle.register.proofs.FindLaws.{starts-none}
@@ -26,6 +26,10 @@ take-min n e =
     (λ l. ap (λ k. take k e) (omega arith))
     (λ l. ap (λ k. take k e) (omega arith) ∙ take-all (length e) e (omega arith) ∙ sym (take-all n e l))
     (cases-lt n (length e))
+
+-- The rows, by their number.
+pub rows-by-count : {A : Type 0} (used count : ℕ) (e : List A) → count ≡ length (take used e) → take count e ≡ take used e
+rows-by-count used count e is = ap (λ n. take n e) (is ∙ length-take used e) ∙ take-min used e
 
 -- A row that has the key stands before the end.
 pub stands-within : {A : Type 0} (key : A → ℕ) (k : ℕ) (rows : List A) (i : ℕ) → starts-with key k (drop i rows) ≡ true → i < length rows
@@ -83,7 +87,7 @@ module _ {S : Type 0} (names : entry.Ghosts S) (sources : source.Ghosts S) (e : 
     (rows-are : count ≡ length (take used e)) (before-count : place ≤ count) (in-memory : count ≤ length e)
     (longest-before : before ≡ longest (frame names sources slots) (take (count - place) (drop place e))) where
   same-rows : take used e ≡ take count e
-  same-rows = sym (take-min used e) ∙ ap (λ n. take n e) (sym (rows-are ∙ length-take used e))
+  same-rows = sym (rows-by-count used count e rows-are)
 
   -- The rows from a place on, in memory.
   back : drop place (take used e) ≡ take (count - place) (drop place e)
@@ -137,3 +141,26 @@ module _ {S : Type 0} (names : entry.Ghosts S) (sources : source.Ghosts S) (e : 
     withdrawn-laid m is =
         change-laid names sources e count place (count - 1) (drop (suc place) (take used e)) before-count in-memory (omega (arith, behind-length)) (omega arith)
         m (is ∙ ap (λ b. take place e ++ (b ++ drop (count - 1) e)) (sym (behind stands))) before longest-before used same-rows
+
+  -- Memory after the row at a place was changed.
+  module _ (f : Slot S → Slot S) (stands : place < count) (x : Slot S) (is : x ≡ getD e place x) where
+    changed-row : change-at place f (take used e) ≡ take place e ++ (f x ∷ drop (suc place) (take used e))
+    changed-row =
+        let front : take place (take used e) ≡ take place e = ap (take place) same-rows ∙ take-take place count e before-count in
+        let at-place : drop place (take used e) ≡ x ∷ drop (suc place) (take used e) =
+          drop-more (take used e) place x (omega arith)
+          ∙ ap₂ (λ a n. a ∷ drop n (take used e)) (ap (λ rs. getD rs place x) same-rows ∙ getD-take count e place x stands ∙ sym is) (add-one place) in
+        ap₂ (λ a b. a ++ on-first f b) front at-place
+
+    pub changed-length : length (change-at place f (take used e)) ≡ count
+    changed-length =
+        ap length changed-row ∙ length-append (take place e) (f x ∷ drop (suc place) (take used e))
+        ∙ ap₂ (λ a b. a + suc b) (length-take-le place e (omega arith)) behind-length ∙ omega arith
+
+    pub settled-laid : set e place (f x) ≡ (laid (record { places = e; used = used }) (change-at place f (take used e))) .places
+    settled-laid =
+        let rest : drop (suc place) e ≡ drop (suc place) (take used e) ++ drop count e =
+          ap (λ n. drop n e) (sym (add-one place)) ∙ sym (rows-then-rest count (place + 1) e (omega arith)) ∙ ap (λ b. b ++ drop count e) (sym (behind stands)) in
+        set-split e place (f x) (omega arith) ∙ ap (λ b. take place e ++ (f x ∷ b)) rest
+        ∙ sym (append-assoc (take place e) (f x ∷ drop (suc place) (take used e)) (drop count e))
+        ∙ ap₂ (λ rs n. rs ++ drop n e) (sym changed-row) (sym changed-length)

@@ -29,7 +29,7 @@ use Rattle.register.specs.Slots.{slots, with-outcome, outcome-for, first-shows
 use Rattle.register.specs.Reference.{Standing, standings, marked, first-settled, settle-standing, look-up-standing}
 use Rattle.register.specs.Steps.{Step, changes, shows, register-step, register-after, register-replies, reference-step, reference-after, reference-replies, rows-after, replies}
 use Rattle.register.proofs.TableLaws.{AllOf, same-place, same-has, same-longest}
-use Rattle.register.proofs.CallLaws.{enter-checks, amend-checks, withdraw-checks}
+use Rattle.register.specs.Calls.{enter-checks, amend-checks, withdraw-checks}
 use Rattle.register.proofs.Invariant.{Good, InRange, Matches, FirstMatches, stored-at, good-empty, good-step}
 
 -- An answer with other values.

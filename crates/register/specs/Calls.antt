@@ -42,25 +42,36 @@ module _ {S A : Type 0} (names : entry.Ghosts S) (sources : source.Ghosts S) (ki
   abbrev pub become : ℕ → List A → List A → List A
   become place after rows = changed-from frame (kind .unsettled) place after rows
 
-  -- Enter: 21 deadline not 1 to 1,000,000, 22 jitter above 1,000,000, 23 identifier taken, 24 already 256 rows, or as many as there
-  -- are places; otherwise the row stands at its place.
+  -- The checks of enter: 21 deadline not 1 to 1,000,000, 22 jitter above 1,000,000, 23 identifier taken, 24 already 256 rows, or as many
+  -- as there are places.
+  abbrev pub enter-checks : ℕ → S → ℕ → List A → List (Bool × ℕ)
+  enter-checks places s deadline rows =
+      (outside 1 horizon deadline, 21) ∷ (ltb horizon (sources .jitter s), 22) ∷ (is-in (names .identifier s) rows, 23)
+      ∷ (leb 256 (length rows) || leb places (length rows), 24) ∷ []
+
+  -- Enter: the row stands at its place.
   abbrev pub enter-rows : ℕ → S → ℕ → List A → Answer (List A)
   enter-rows places s deadline rows =
       let place : ℕ = place-in (names .identifier s) rows in
-      checked
-      ((outside 1 horizon deadline, 21) ∷ (ltb horizon (sources .jitter s), 22) ∷ (is-in (names .identifier s) rows, 23)
-      ∷ (leb 256 (length rows) || leb places (length rows), 24) ∷ [])
-      (become place (kind .fresh s deadline ∷ drop place rows) rows)
+      checked (enter-checks places s deadline rows) (become place (kind .fresh s deadline ∷ drop place rows) rows)
 
-  -- Amend: 21 and 22 as for enter, 25 no such row; otherwise the row is replaced.
+  -- The checks of amend: 21 and 22 as for enter, 25 no such row.
+  abbrev pub amend-checks : S → ℕ → List A → List (Bool × ℕ)
+  amend-checks s deadline rows =
+      (outside 1 horizon deadline, 21) ∷ (ltb horizon (sources .jitter s), 22) ∷ (not (is-in (names .identifier s) rows), 25) ∷ []
+
+  -- Amend: the row is replaced.
   abbrev pub amend-rows : S → ℕ → List A → Answer (List A)
   amend-rows s deadline rows =
       let place : ℕ = place-in (names .identifier s) rows in
-      checked ((outside 1 horizon deadline, 21) ∷ (ltb horizon (sources .jitter s), 22) ∷ (not (is-in (names .identifier s) rows), 25) ∷ [])
-      (become place (kind .fresh s deadline ∷ drop (suc place) rows) rows)
+      checked (amend-checks s deadline rows) (become place (kind .fresh s deadline ∷ drop (suc place) rows) rows)
 
-  -- Withdraw: 25 no such row; otherwise the row is gone.
+  -- The check of withdraw: 25 no such row.
+  abbrev pub withdraw-checks : ℕ → List A → List (Bool × ℕ)
+  withdraw-checks id rows = (not (is-in id rows), 25) ∷ []
+
+  -- Withdraw: the row is gone.
   abbrev pub withdraw-rows : ℕ → List A → Answer (List A)
   withdraw-rows id rows =
       let place : ℕ = place-in id rows in
-      checked ((not (is-in id rows), 25) ∷ []) (become place (drop (suc place) rows) rows)
+      checked (withdraw-checks id rows) (become place (drop (suc place) rows) rows)

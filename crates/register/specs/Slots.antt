@@ -110,6 +110,20 @@ bound-shown s = elim (s .outcome) [ Some o ↦ bound-of (outcome-of o) | None �
 abbrev pub chart-rows : {S : Type 0} → List (Slot S) → List ℕ → Answer (List ℕ)
 chart-rows rows list = checked ((ltb (length list) (length rows), 32) ∷ []) (map bound-shown rows ++ drop (length rows) list)
 
+-- Whether a call is accepted.
+abbrev pub accepted : {V : Type 0} → Answer V → Answer (Unit {0})
+accepted (made v) = made (tt {0})
+accepted (refused n) = refused n
+
+-- How many bounds chart writes.
+abbrev pub chart-count : {S : Type 0} → List (Slot S) → List ℕ → Answer ℕ
+chart-count rows list = checked ((ltb (length list) (length rows), 32) ∷ []) (length rows)
+
+-- The list after chart: as it was where it is refused.
+abbrev pub list-after : List ℕ → Answer (List ℕ) → List ℕ
+list-after list (made new) = new
+list-after list (refused n) = list
+
 -- The memory after a call: other rows, or as it was where the call is refused.
 abbrev pub stored : {S : Type 0} → Memory S → Answer (List (Slot S)) → Memory S
 stored memory (made rows) = laid memory rows

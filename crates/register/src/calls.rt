@@ -1,16 +1,17 @@
 // The register's calls, on the lent memory and the number of rows in it.
 ghost use mathlib.Core.Path.{_≡_};
 ghost use mathlib.Core.Bool.{true};
-ghost use mathlib.Core.List.{[], _∷_};
+ghost use mathlib.Core.List.{[], _∷_, map};
 ghost use Prim.Native.Nat.{ℕ, _<_, _≤_};
 ghost use lib.Dec.{ltb};
 ghost use lib.ListN.{length, take};
 ghost use Rattle.sources.specs.Answers.{answered, checked, outside};
 ghost use Rattle.response.specs.Searches.{horizon};
-ghost use Rattle.response.specs.Views.{outcome-of};
+ghost use Rattle.response.specs.Views.{outcome-of, fault-number as response-number};
+ghost use Rattle.response.specs.Analysis.{response-answer};
 ghost use Rattle.register.specs.Faults.{fault-number, host-number};
-ghost use Rattle.register.specs.Calls.{place-in, is-in};
-ghost use Rattle.register.specs.Slots.{slots as slot-kind, Memory, count-of, stored, enter-memory, amend-memory, withdraw-memory, settle-memory, look-up-memory, chart-rows};
+ghost use Rattle.register.specs.Calls.{models, place-in, is-in};
+ghost use Rattle.register.specs.Slots.{slots as slot-kind, Memory, count-of, stored, enter-memory, amend-memory, withdraw-memory, settle-memory, look-up-memory, chart-rows, chart-count, list-after};
 use crate::slot::Slot;
 use crate::slot::SlotEntry;
 use crate::slot::SlotListed;
@@ -24,6 +25,7 @@ use crate::uses::HostFault;
 use crate::uses::RegisterFault;
 use crate::uses::ResponseFaultInto;
 use response::Outcome;
+use response::ResponseFault;
 use response::Row;
 use response::respond;
 use sources::Source;
@@ -117,4 +119,56 @@ pub(crate) fn withdraw<S: Source + Copy>(slots: &mut [Slot<S>], used: usize, ide
     remove(slots, at.place, at.count);
     unsettle(slots, at.place, at.count - 1, before);
     Ok(at.count - 1)
+}
+
+// The response of the row at a place among the rows.
+fn analyse<S: Source>(slots: &[Slot<S>], count: usize, place: usize) -> Result<Outcome, ResponseFault>
+    requires { ⌜ count ≤ length (now slots) ⌝ }
+    ensures { λ r. ⌜ answered response-number outcome-of r ≡ response-answer (models S·Entry S·Source slot-kind (take count (now (slots .entry)))) (map (λ s. s .row .deadline) (take count (now (slots .entry)))) place ⌝ }
+{
+    respond(&slots[0..count], place)
+}
+
+// Works out and stores the outcome of the row with an identifier; answers the number of rows.
+pub(crate) fn settle<S: Source + Copy>(slots: &mut [Slot<S>], used: usize, identifier: u32) -> Result<usize, RegisterFault>
+    ensures answer { λ r. ⌜ answered fault-number (λ n. n) r ≡ count-of (settle-memory S·Entry S·Source identifier (record { places = now (slots .entry); used = used })) ⌝ }
+    ensures memory { λ _. ⌜ now (slots .exit) ≡ (stored (record { places = now (slots .entry); used = used }) (settle-memory S·Entry S·Source identifier (record { places = now (slots .entry); used = used }))) .places ⌝ }
+{
+    let at = locate(slots, used, identifier);
+    if !at.taken {
+        return Err(RegisterFault::Absent);
+    }
+    let outcome = analyse(slots, at.count, at.place)?;
+    let slot = slots[at.place];
+    slots[at.place] = slot.settled(outcome);
+    Ok(at.count)
+}
+
+// The stored outcome of the row with an identifier.
+pub(crate) fn look_up<S: Source>(slots: &[Slot<S>], used: usize, identifier: u32) -> Result<Outcome, RegisterFault>
+    ensures { λ r. ⌜ answered fault-number outcome-of r ≡ look-up-memory S·Entry S·Source identifier (record { places = now (slots .entry); used = used }) ⌝ }
+{
+    let at = locate(slots, used, identifier);
+    if !at.taken {
+        return Err(RegisterFault::Absent);
+    }
+    match slots[at.place].shown() {
+        Some(outcome) => Ok(outcome),
+        None => Err(RegisterFault::Unsettled),
+    }
+}
+
+// Writes the bound of each row into a list, in their order; answers how many.
+pub(crate) fn chart<S: Source>(slots: &[Slot<S>], used: usize, list: &mut [u32]) -> Result<usize, HostFault>
+    ensures answer { λ r. ⌜ answered host-number (λ n. n) r ≡ chart-count (take used (now (slots .entry))) (now (list .entry)) ⌝ }
+    ensures memory { λ _. ⌜ now (list .exit) ≡ list-after (now (list .entry)) (chart-rows (take used (now (slots .entry))) (now (list .entry))) ⌝ }
+{
+    let count = used.min(slots.len());
+    if list.len() < count {
+        return Err(HostFault::ShortList);
+    }
+    for i in 0..count {
+        list[i] = slots[i].bound();
+    }
+    Ok(count)
 }

@@ -1,7 +1,7 @@
 // A place of the register's memory.
 ghost use mathlib.Core.Path.{_≡_};
-ghost use Rattle.std.specs.declared.option.Option.the-variants.{None as Nothing};
-ghost use Rattle.register.specs.Slots.{with-outcome};
+ghost use Rattle.std.specs.declared.option.Option.the-variants.{None as Nothing, Some as Just};
+ghost use Rattle.register.specs.Slots.{with-outcome, bound-shown};
 use response::Listed;
 use response::Outcome;
 use response::Row;
@@ -24,6 +24,35 @@ impl<S: Copy> Slot<S> {
         Slot {
             row: self.row,
             outcome: None,
+        }
+    }
+
+    // The row with an outcome.
+    pub fn settled(self, outcome: Outcome) -> Slot<S>
+        ensures { λ r. ⌜ r ≡ with-outcome (Just outcome) self ⌝ }
+    {
+        Slot {
+            row: self.row,
+            outcome: Some(outcome),
+        }
+    }
+}
+
+impl<S> Slot<S> {
+    // The outcome of the row, if it is settled.
+    pub fn shown(&self) -> Option<Outcome>
+        ensures { λ r. ⌜ r ≡ now (self .entry) .outcome ⌝ }
+    {
+        self.outcome
+    }
+
+    // The bound that the row shows, and 0 where it shows none.
+    pub fn bound(&self) -> u32
+        ensures { λ r. ⌜ r ≡ bound-shown (now (self .entry)) ⌝ }
+    {
+        match self.outcome {
+            Some(outcome) => outcome.bound(),
+            None => 0,
         }
     }
 }

@@ -76,8 +76,8 @@ impl Cycle {
         requires { ⌜ k ≤ 2000001 ⌝ }
         ensures { λ r. ⌜ r ≡ cycle-work (take (now (self .entry) .size) (now (self .entry) .lengths)) k ⌝ }
     {
-        let rounds = k / self.size as u32;
-        let rest = k as usize % self.size;
-        rounds * self.most[self.size] + self.most[rest]
+        let size = self.size as u32;
+        let rest = (k % size) as usize;
+        k / size * self.most[self.size] + self.most[rest]
     }
 }
