@@ -14,3 +14,5 @@ pub mod UnsettleLaws
 pub mod MemoryLaws
 pub mod CallAnswers
 pub mod SettleAnswers
+pub mod RegisterLaws
+pub mod PerformLaws

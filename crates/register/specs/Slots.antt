@@ -64,6 +64,10 @@ pub record Memory (S : Type 0) : Type 0 where
   pub places : List (Slot S)
   pub used : ℕ
 
+-- A register that was just opened has no row.
+abbrev pub opened : {S : Type 0} → List (Slot S) → Memory S
+opened places = record { places = places; used = 0 }
+
 -- The standing rows.
 abbrev pub standing : {S : Type 0} → Memory S → List (Slot S)
 standing memory = take (memory .used) (memory .places)

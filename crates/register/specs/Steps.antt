@@ -6,14 +6,18 @@ use Rattle.sources.specs.declared.source.Entry as entry
 use Rattle.sources.specs.declared.source.Source as source
 use Rattle.response.specs.Bounds.{Response}
 use Rattle.response.specs.Views.{outcome-of}
+use Rattle.std.specs.declared.result.Result.{Result}
+use Rattle.std.specs.declared.result.Result.the-variants.{Ok, Err}
+use Rattle.response.specs.declared.outcome.Outcome.{Outcome}
 use Rattle.register.specs.declared.slot.Slot.{Slot}
+use Rattle.register.specs.declared.uses.RegisterFault.{RegisterFault}
 use Rattle.register.specs.declared.uses.Use.{Use}
 use Rattle.register.specs.declared.uses.Use.the-variants.{Enter, Amend, Withdraw, Settle, LookUp}
 use Rattle.register.specs.declared.uses.Answer as code
 use Rattle.register.specs.declared.uses.Answer.the-variants.{Done, Shown, Refused}
 use Rattle.register.specs.Faults.{fault-number}
 use Rattle.register.specs.Calls.{Kind, enter-rows, amend-rows, withdraw-rows}
-use Rattle.register.specs.Slots.{slots, settle-slots, look-up-slots}
+use Rattle.register.specs.Slots.{slots, settle-slots, look-up-slots, Memory, stored, enter-memory, amend-memory, withdraw-memory, settle-memory}
 use Rattle.register.specs.Reference.{Standing, standings, settle-standing, look-up-standing}
 
 -- What a use is answered: it is done, a response is shown, or it is denied with a number.
@@ -42,6 +46,15 @@ changes rows (refused n) = record { rows = rows; reply = denied n }
 abbrev pub shows : {A : Type 0} → List A → Answer Response → Step A
 shows rows (made r) = record { rows = rows; reply = shown r }
 shows rows (refused n) = record { rows = rows; reply = denied n }
+
+-- The reply to a call that changes rows, and to one that shows a response, from its result.
+abbrev pub done-reply : Result (Unit {0}) RegisterFault → Reply
+done-reply (Ok u) = done
+done-reply (Err f) = denied (fault-number f)
+
+abbrev pub shown-reply : Result Outcome RegisterFault → Reply
+shown-reply (Ok o) = shown (outcome-of o)
+shown-reply (Err f) = denied (fault-number f)
 
 module _ {S A : Type 0} (names : entry.Ghosts S) (sources : source.Ghosts S) (kind : Kind S A)
     (settle : ℕ → List A → Answer (List A)) (look-up : ℕ → List A → Answer Response) (places : ℕ) where
@@ -82,3 +95,17 @@ module _ {S : Type 0} (names : entry.Ghosts S) (sources : source.Ghosts S) (plac
 
   abbrev pub reference-replies : List (Use S) → List Reply
   reference-replies uses = replies names sources standings (settle-standing names sources) (look-up-standing names sources) places [] uses
+
+module _ {S : Type 0} (names : entry.Ghosts S) (sources : source.Ghosts S) where
+  -- The memory after one use.
+  abbrev pub memory-step : Memory S → Use S → Memory S
+  memory-step memory (Enter row) = stored memory (enter-memory names sources row memory)
+  memory-step memory (Amend row) = stored memory (amend-memory names sources row memory)
+  memory-step memory (Withdraw id) = stored memory (withdraw-memory names sources id memory)
+  memory-step memory (Settle id) = stored memory (settle-memory names sources id memory)
+  memory-step memory (LookUp id) = memory
+
+  -- The memory after a list of uses.
+  abbrev pub memory-after : Memory S → List (Use S) → Memory S
+  memory-after memory [] = memory
+  memory-after memory (u ∷ us) = memory-after (memory-step memory u) us

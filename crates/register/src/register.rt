@@ -5,7 +5,7 @@ ghost use lib.ListN.{length, take};
 ghost use Rattle.sources.specs.Answers.{answered};
 ghost use Rattle.response.specs.Views.{outcome-of};
 ghost use Rattle.register.specs.Faults.{fault-number, host-number};
-ghost use Rattle.register.specs.Slots.{Memory, accepted, stored, enter-memory, amend-memory, withdraw-memory, settle-memory, look-up-memory, chart-rows, chart-count, list-after};
+ghost use Rattle.register.specs.Slots.{Memory, opened, accepted, stored, enter-memory, amend-memory, withdraw-memory, settle-memory, look-up-memory, chart-rows, chart-count, list-after};
 use crate::calls;
 use crate::slot::Slot;
 use crate::uses::HostFault;
@@ -24,7 +24,7 @@ pub struct Register<'a, S> {
 impl<'a, S: Source + Copy> Register<'a, S> {
     // An empty register.
     pub fn open(slots: &'a mut [Slot<S>]) -> Register<'a, S>
-        ensures memory { λ r. ⌜ _≡_ {A = Memory S} (record { places = now (r .slots); used = r .used }) (record { places = now (slots .entry); used = 0 }) ⌝ }
+        ensures memory { λ r. ⌜ _≡_ {A = Memory S} (record { places = now (r .slots); used = r .used }) (opened (now (slots .entry))) ⌝ }
         ensures same { λ r. ⌜ name (r .slots) ≡ name (slots .entry) ⌝ }
     {
         Register { slots, used: 0 }
