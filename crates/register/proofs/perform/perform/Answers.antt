@@ -44,10 +44,9 @@ returns g c =
     let replies : map reply-of (take n (c .loop-i .answers)) ≡ register-replies (g .S·Entry) (g .S·Source) (length (c .args .slots .now)) [] (take n uses) =
       ap (λ i. map reply-of (take i (c .loop-i .answers))) (sym end) ∙ c .loop-i .inv .1
       ∙ ap₂ (λ ps i. register-replies (g .S·Entry) (g .S·Source) (length ps) [] (take i uses)) open-places end in
-    let h = c .slots·1 in
     record {
       count = c .min-count .ensures;
       rest = ap (λ i. drop i (c .loop-i .answers)) (sym end) ∙ c .loop-i .inv .2 ∙ ap (λ i. drop i (c .args .answers .now)) end;
-      memory = ? ∙ last;
+      memory = c .slots·1 .given .1 .1 (sym names) ∙ last;
       promise = promise-kept (g .S·Entry) (g .S·Source) (g .S·Source·met .lawful) (c .args .slots .now) (take n uses) _ replies;
     }
