@@ -18,8 +18,6 @@ module _ {A : Type 0} (key : A → ℕ) (k : ℕ) (rows : List A) (i : ℕ) wher
   starts-none past = at-drop-all (starts-with key k) rows i past
 
   module _ (a : A) (inside : i < length rows) (is : a ≡ getD rows i a) where
-
-
     pub found-here : k ≤ key a → place-of key k (drop i rows) ≡ 0
     found-here l =
         at-drop-more (place-of key k) rows i a inside

@@ -57,9 +57,9 @@ module _ {S : Type 0} (names : entry.Ghosts S) (sources : source.Ghosts S) (e : 
   become-length =
       length-append (unsettle-above (frame names sources slots) (with-outcome None) (take place rows) (longest (frame names sources slots) (drop place rows)) (longest (frame names sources slots) after)) (map (with-outcome None) after)
       ∙ ap₂ (λ a b. a + b)
-        (length-unsettle (frame names sources slots) (with-outcome None) (take place rows) (longest (frame names sources slots) (drop place rows)) (longest (frame names sources slots) after)
-         ∙ length-take-le place rows (omega (arith, length-take-le count e in-memory)))
-        (length-map after (with-outcome None))
+      (length-unsettle (frame names sources slots) (with-outcome None) (take place rows) (longest (frame names sources slots) (drop place rows)) (longest (frame names sources slots) after)
+      ∙ length-take-le place rows (omega (arith, length-take-le count e in-memory)))
+      (length-map after (with-outcome None))
       ∙ omega arith
 
   -- Memory whose rows from a place on are new, once what the change unsettles is unsettled, is as it is meant.
@@ -71,11 +71,11 @@ module _ {S : Type 0} (names : entry.Ghosts S) (sources : source.Ghosts S) (e : 
       let back : drop place m ≡ after ++ drop end e = ap (drop place) is ∙ drop-at (take place e) (after ++ drop end e) place (length-take-le place e (omega arith)) in
       let new : take (end - place) (drop place m) ≡ after = ap (take (end - place)) back ∙ take-at after (drop end e) (end - place) new-count in
       let past : drop end m ≡ drop end e =
-        let there : place + (end - place) ≡ end = omega arith in
-        ap (λ n. drop n m) (sym there) ∙ sym (drop-drop (end - place) place m) ∙ ap (drop (end - place)) back ∙ drop-at after (drop end e) (end - place) new-count in
+      let there : place + (end - place) ≡ end = omega arith in
+      ap (λ n. drop n m) (sym there) ∙ sym (drop-drop (end - place) place m) ∙ ap (drop (end - place)) back ∙ drop-at after (drop end e) (end - place) new-count in
       let rows-front : take place rows ≡ take place e = take-take place count e before-count in
       let parts : List (Slot S) → ℕ → List (Slot S) → List (Slot S) → List (Slot S) = λ f x a p.
-        unsettle-above (frame names sources slots) (with-outcome None) f x (longest (frame names sources slots) a) ++ (map (with-outcome None) a ++ p) in
+      unsettle-above (frame names sources slots) (with-outcome None) f x (longest (frame names sources slots) a) ++ (map (with-outcome None) a ++ p) in
       ap₂ (λ f a. parts f before a (drop end m)) front new
       ∙ ap₂ (λ f p. parts f before after p) (sym rows-front) past
       ∙ ap (λ x. parts (take place rows) x after (drop end e)) (b ∙ ap (longest (frame names sources slots)) (sym (back-is count place e before-count)))
@@ -125,7 +125,7 @@ module _ {S : Type 0} (names : entry.Ghosts S) (sources : source.Ghosts S) (e : 
     pub amended-laid : unsettled-memory names sources place count before (set e place x) ≡ (laid (record { places = e; used = used }) (become names sources slots place (x ∷ drop (suc place) (take used e)) (take used e))) .places
     amended-laid =
         let rest : drop (suc place) e ≡ drop (suc place) (take used e) ++ drop count e =
-          ap (λ n. drop n e) (sym (add-one place)) ∙ sym (rows-then-rest count (place + 1) e (omega arith)) ∙ ap (λ b. b ++ drop count e) (sym (behind stands)) in
+        ap (λ n. drop n e) (sym (add-one place)) ∙ sym (rows-then-rest count (place + 1) e (omega arith)) ∙ ap (λ b. b ++ drop count e) (sym (behind stands)) in
         change-laid names sources e count place count (x ∷ drop (suc place) (take used e)) before-count in-memory (omega (arith, behind-length)) before-count
         (set e place x) (set-split e place x (omega arith) ∙ ap (λ b. take place e ++ (x ∷ b)) rest) before longest-before used same-rows
 
@@ -148,8 +148,8 @@ module _ {S : Type 0} (names : entry.Ghosts S) (sources : source.Ghosts S) (e : 
     changed-row =
         let front : take place (take used e) ≡ take place e = ap (take place) same-rows ∙ take-take place count e before-count in
         let at-place : drop place (take used e) ≡ x ∷ drop (suc place) (take used e) =
-          drop-more (take used e) place x (omega arith)
-          ∙ ap₂ (λ a n. a ∷ drop n (take used e)) (ap (λ rs. getD rs place x) same-rows ∙ getD-take count e place x stands ∙ sym is) (add-one place) in
+        drop-more (take used e) place x (omega arith)
+        ∙ ap₂ (λ a n. a ∷ drop n (take used e)) (ap (λ rs. getD rs place x) same-rows ∙ getD-take count e place x stands ∙ sym is) (add-one place) in
         ap₂ (λ a b. a ++ on-first f b) front at-place
 
     pub changed-length : length (change-at place f (take used e)) ≡ count
@@ -160,7 +160,7 @@ module _ {S : Type 0} (names : entry.Ghosts S) (sources : source.Ghosts S) (e : 
     pub settled-laid : set e place (f x) ≡ (laid (record { places = e; used = used }) (change-at place f (take used e))) .places
     settled-laid =
         let rest : drop (suc place) e ≡ drop (suc place) (take used e) ++ drop count e =
-          ap (λ n. drop n e) (sym (add-one place)) ∙ sym (rows-then-rest count (place + 1) e (omega arith)) ∙ ap (λ b. b ++ drop count e) (sym (behind stands)) in
+        ap (λ n. drop n e) (sym (add-one place)) ∙ sym (rows-then-rest count (place + 1) e (omega arith)) ∙ ap (λ b. b ++ drop count e) (sym (behind stands)) in
         set-split e place (f x) (omega arith) ∙ ap (λ b. take place e ++ (f x ∷ b)) rest
         ∙ sym (append-assoc (take place e) (f x ∷ drop (suc place) (take used e)) (drop count e))
         ∙ ap₂ (λ rs n. rs ++ drop n e) (sym changed-row) (sym changed-length)

@@ -34,12 +34,12 @@ module _ {X : Type 0} (place i : ℕ) (xs e : List X) (from : place ≤ i) (room
       let front : List X = take place e ++ take (i - place) xs in
       let next : (i + 1) - place ≡ (i - place) + 1 = omega arith in
       let one-more : take ((i + 1) - place) xs ≡ take (i - place) xs ++ (x ∷ []) =
-        ap (λ n. take n xs) next ∙ take-more xs (i - place) x more ∙ ap (λ y. take (i - place) xs ++ (y ∷ [])) (sym is) in
+      ap (λ n. take n xs) next ∙ take-more xs (i - place) x more ∙ ap (λ y. take (i - place) xs ++ (y ∷ [])) (sym is) in
       let split : laid-out place i xs e ≡ front ++ (getD e i x ∷ drop (i + 1) e) =
-        sym (append-assoc (take place e) (take (i - place) xs) (drop i e)) ∙ ap (λ ys. front ++ ys) (drop-more e i x inside) in
+      sym (append-assoc (take place e) (take (i - place) xs) (drop i e)) ∙ ap (λ ys. front ++ ys) (drop-more e i x inside) in
       let joined : front ++ (x ∷ drop (i + 1) e) ≡ laid-out place (i + 1) xs e =
-        append-assoc (take place e) (take (i - place) xs) (x ∷ drop (i + 1) e)
-        ∙ ap (λ ys. take place e ++ ys) (sym (append-assoc (take (i - place) xs) (x ∷ []) (drop (i + 1) e)) ∙ ap (λ ys. ys ++ drop (i + 1) e) (sym one-more)) in
+      append-assoc (take place e) (take (i - place) xs) (x ∷ drop (i + 1) e)
+      ∙ ap (λ ys. take place e ++ ys) (sym (append-assoc (take (i - place) xs) (x ∷ []) (drop (i + 1) e)) ∙ ap (λ ys. ys ++ drop (i + 1) e) (sym one-more)) in
       ap (λ ys. set ys i x) split ∙ set-at front (getD e i x) (drop (i + 1) e) x i front-length ∙ joined
 
 -- Before the first write the memory is as it was.

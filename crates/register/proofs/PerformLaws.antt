@@ -58,24 +58,24 @@ module _ {S : Type 0} (names : entry.Ghosts S) (sources : source.Ghosts S) where
         let place : ℕ = place-in names sources slots (names .identifier (row .source)) rows in
         checked-cases Keeps (enter-checks names sources slots (length (memory .places)) (row .source) (row .deadline) rows) _
         (λ none.
-          let passed = enter-passed names sources slots (length (memory .places)) (row .source) (row .deadline) rows none in
-          let inside : place ≤ length rows = place-within (identifier names sources slots) (names .identifier (row .source)) rows in
-          laid-length memory _ (omega (arith, become-count place (slots .fresh (row .source) (row .deadline) ∷ drop place rows) rows, length-take-le place rows inside, length-drop place rows, passed .room)))
+        let passed = enter-passed names sources slots (length (memory .places)) (row .source) (row .deadline) rows none in
+        let inside : place ≤ length rows = place-within (identifier names sources slots) (names .identifier (row .source)) rows in
+        laid-length memory _ (omega (arith, become-count place (slots .fresh (row .source) (row .deadline) ∷ drop place rows) rows, length-take-le place rows inside, length-drop place rows, passed .room)))
         (λ n. refl)
     step-length (Amend row) =
         let place : ℕ = place-in names sources slots (names .identifier (row .source)) rows in
         checked-cases Keeps (amend-checks names sources slots (row .source) (row .deadline) rows) _
         (λ none.
-          let passed = amend-passed names sources slots (row .source) (row .deadline) rows none in
-          let inside : place < length rows = place-inside (identifier names sources slots) (names .identifier (row .source)) rows (passed .has) in
-          laid-length memory _ (omega (arith, few, become-count place (slots .fresh (row .source) (row .deadline) ∷ drop (suc place) rows) rows, length-take-le place rows (omega arith), length-drop (suc place) rows)))
+        let passed = amend-passed names sources slots (row .source) (row .deadline) rows none in
+        let inside : place < length rows = place-inside (identifier names sources slots) (names .identifier (row .source)) rows (passed .has) in
+        laid-length memory _ (omega (arith, few, become-count place (slots .fresh (row .source) (row .deadline) ∷ drop (suc place) rows) rows, length-take-le place rows (omega arith), length-drop (suc place) rows)))
         (λ n. refl)
     step-length (Withdraw id) =
         let place : ℕ = place-in names sources slots id rows in
         checked-cases Keeps (withdraw-checks names sources slots id rows) _
         (λ none.
-          let inside : place ≤ length rows = place-within (identifier names sources slots) id rows in
-          laid-length memory _ (omega (arith, few, become-count place (drop (suc place) rows) rows, length-take-le place rows inside, length-drop (suc place) rows)))
+        let inside : place ≤ length rows = place-within (identifier names sources slots) id rows in
+        laid-length memory _ (omega (arith, few, become-count place (drop (suc place) rows) rows, length-take-le place rows inside, length-drop (suc place) rows)))
         (λ n. refl)
     step-length (Settle id) =
         let place : ℕ = place-in names sources slots id rows in
@@ -83,8 +83,8 @@ module _ {S : Type 0} (names : entry.Ghosts S) (sources : source.Ghosts S) where
         let change : Slot S → Slot S = with-outcome (Some (outcome-for (response-at names sources place rows))) in
         checked-cases Keeps ((not (is-in names sources slots id rows), 25) ∷ row-checks (models names sources slots rows) (map (λ s. s .row .deadline) rows)) _
         (λ none.
-          laid-length memory _
-          (omega (arith, few, length-append (take place rows) (on-first change (drop place rows)), length-take-le place rows inside, on-first-length change (drop place rows), length-drop place rows)))
+        laid-length memory _
+        (omega (arith, few, length-append (take place rows) (on-first change (drop place rows)), length-take-le place rows inside, on-first-length change (drop place rows), length-drop place rows)))
         (λ n. refl)
     step-length (LookUp id) = refl
 
@@ -115,7 +115,7 @@ module _ {S : Type 0} (names : entry.Ghosts S) (sources : source.Ghosts S) where
   promise-kept lawful places us given is =
       subst (λ rs. Promise names sources (length places) us given rs) (sym (rows-after-are (opened places) us))
       (subst (λ rs. Promise names sources (length places) us rs (register-after names sources (length places) [] us)) (sym is)
-       (promised names sources lawful (length places) (same-elsewhere names sources (length places)) us))
+      (promised names sources lawful (length places) (same-elsewhere names sources (length places)) us))
 
   -- One use more: memory and replies, from what the use left and answered.
   module _ (places : List (Slot S)) (uses : List (Use S)) (i : ℕ) (u : Use S) (inside : i < length uses) (is : u ≡ getD uses i u)

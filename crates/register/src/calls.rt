@@ -55,7 +55,11 @@ fn locate<S: Source>(slots: &[Slot<S>], used: usize, identifier: u32) -> Located
     let rows = &slots[0..count];
     let place = find(rows, identifier);
     let taken = stands(rows, place, identifier);
-    Located { count, place, taken }
+    Located {
+        count,
+        place,
+        taken,
+    }
 }
 
 // Checks the deadline and the jitter of a row.
@@ -72,7 +76,11 @@ fn check_row<S: Source>(row: &Row<S>) -> Result<(), RegisterFault>
 }
 
 // Enters a row; answers the number of rows.
-pub(crate) fn enter<S: Source + Copy>(slots: &mut [Slot<S>], used: usize, row: Row<S>) -> Result<usize, RegisterFault>
+pub(crate) fn enter<S: Source + Copy>(
+    slots: &mut [Slot<S>],
+    used: usize,
+    row: Row<S>,
+) -> Result<usize, RegisterFault>
     ensures answer { λ r. ⌜ answered fault-number (λ n. n) r ≡ count-of (enter-memory S·Entry S·Source row (record { places = now (slots .entry); used = used })) ⌝ }
     ensures memory { λ _. ⌜ now (slots .exit) ≡ (stored (record { places = now (slots .entry); used = used }) (enter-memory S·Entry S·Source row (record { places = now (slots .entry); used = used }))) .places ⌝ }
 {
@@ -91,7 +99,11 @@ pub(crate) fn enter<S: Source + Copy>(slots: &mut [Slot<S>], used: usize, row: R
 }
 
 // Replaces the row with the source's identifier; answers the number of rows.
-pub(crate) fn amend<S: Source + Copy>(slots: &mut [Slot<S>], used: usize, row: Row<S>) -> Result<usize, RegisterFault>
+pub(crate) fn amend<S: Source + Copy>(
+    slots: &mut [Slot<S>],
+    used: usize,
+    row: Row<S>,
+) -> Result<usize, RegisterFault>
     ensures answer { λ r. ⌜ answered fault-number (λ n. n) r ≡ count-of (amend-memory S·Entry S·Source row (record { places = now (slots .entry); used = used })) ⌝ }
     ensures memory { λ _. ⌜ now (slots .exit) ≡ (stored (record { places = now (slots .entry); used = used }) (amend-memory S·Entry S·Source row (record { places = now (slots .entry); used = used }))) .places ⌝ }
 {
@@ -107,7 +119,11 @@ pub(crate) fn amend<S: Source + Copy>(slots: &mut [Slot<S>], used: usize, row: R
 }
 
 // Removes the row with an identifier; answers the number of rows.
-pub(crate) fn withdraw<S: Source + Copy>(slots: &mut [Slot<S>], used: usize, identifier: u32) -> Result<usize, RegisterFault>
+pub(crate) fn withdraw<S: Source + Copy>(
+    slots: &mut [Slot<S>],
+    used: usize,
+    identifier: u32,
+) -> Result<usize, RegisterFault>
     ensures answer { λ r. ⌜ answered fault-number (λ n. n) r ≡ count-of (withdraw-memory S·Entry S·Source identifier (record { places = now (slots .entry); used = used })) ⌝ }
     ensures memory { λ _. ⌜ now (slots .exit) ≡ (stored (record { places = now (slots .entry); used = used }) (withdraw-memory S·Entry S·Source identifier (record { places = now (slots .entry); used = used }))) .places ⌝ }
 {
@@ -122,7 +138,11 @@ pub(crate) fn withdraw<S: Source + Copy>(slots: &mut [Slot<S>], used: usize, ide
 }
 
 // The response of the row at a place among the rows.
-fn analyse<S: Source>(slots: &[Slot<S>], count: usize, place: usize) -> Result<Outcome, ResponseFault>
+fn analyse<S: Source>(
+    slots: &[Slot<S>],
+    count: usize,
+    place: usize,
+) -> Result<Outcome, ResponseFault>
     requires { ⌜ count ≤ length (now slots) ⌝ }
     ensures { λ r. ⌜ answered response-number outcome-of r ≡ response-answer (models S·Entry S·Source slot-kind (take count (now (slots .entry)))) (map (λ s. s .row .deadline) (take count (now (slots .entry)))) place ⌝ }
 {
@@ -130,7 +150,11 @@ fn analyse<S: Source>(slots: &[Slot<S>], count: usize, place: usize) -> Result<O
 }
 
 // Works out and stores the outcome of the row with an identifier; answers the number of rows.
-pub(crate) fn settle<S: Source + Copy>(slots: &mut [Slot<S>], used: usize, identifier: u32) -> Result<usize, RegisterFault>
+pub(crate) fn settle<S: Source + Copy>(
+    slots: &mut [Slot<S>],
+    used: usize,
+    identifier: u32,
+) -> Result<usize, RegisterFault>
     ensures answer { λ r. ⌜ answered fault-number (λ n. n) r ≡ count-of (settle-memory S·Entry S·Source identifier (record { places = now (slots .entry); used = used })) ⌝ }
     ensures memory { λ _. ⌜ now (slots .exit) ≡ (stored (record { places = now (slots .entry); used = used }) (settle-memory S·Entry S·Source identifier (record { places = now (slots .entry); used = used }))) .places ⌝ }
 {
@@ -145,7 +169,11 @@ pub(crate) fn settle<S: Source + Copy>(slots: &mut [Slot<S>], used: usize, ident
 }
 
 // The stored outcome of the row with an identifier.
-pub(crate) fn look_up<S: Source>(slots: &[Slot<S>], used: usize, identifier: u32) -> Result<Outcome, RegisterFault>
+pub(crate) fn look_up<S: Source>(
+    slots: &[Slot<S>],
+    used: usize,
+    identifier: u32,
+) -> Result<Outcome, RegisterFault>
     ensures { λ r. ⌜ answered fault-number outcome-of r ≡ look-up-memory S·Entry S·Source identifier (record { places = now (slots .entry); used = used }) ⌝ }
 {
     let at = locate(slots, used, identifier);
@@ -159,7 +187,11 @@ pub(crate) fn look_up<S: Source>(slots: &[Slot<S>], used: usize, identifier: u32
 }
 
 // Writes the bound of each row into a list, in their order; answers how many.
-pub(crate) fn chart<S: Source>(slots: &[Slot<S>], used: usize, list: &mut [u32]) -> Result<usize, HostFault>
+pub(crate) fn chart<S: Source>(
+    slots: &[Slot<S>],
+    used: usize,
+    list: &mut [u32],
+) -> Result<usize, HostFault>
     ensures answer { λ r. ⌜ answered host-number (λ n. n) r ≡ chart-count (take used (now (slots .entry))) (now (list .entry)) ⌝ }
     ensures memory { λ _. ⌜ now (list .exit) ≡ list-after (now (list .entry)) (chart-rows (take used (now (slots .entry))) (now (list .entry))) ⌝ }
 {

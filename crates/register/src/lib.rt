@@ -1,12 +1,13 @@
 // A register of the messages on one bus, in memory that the caller lends.
 mod calls;
-mod perform;
+mod performing;
 mod register;
 mod slot;
 mod table;
 mod unsettle;
 mod uses;
 
+pub use performing::perform;
 pub use register::Register;
 pub use slot::Slot;
 pub use slot::SlotEntry;

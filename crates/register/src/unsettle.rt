@@ -25,7 +25,12 @@ pub(crate) fn unsettle_from<S: Copy>(slots: &mut [Slot<S>], place: usize, end: u
 
 // Unsettles each row above a place whose longest frame below is another, where the rows from the place on had the one longest frame
 // before and have the other now.
-pub(crate) fn unsettle_above_place<S: Source + Copy>(slots: &mut [Slot<S>], place: usize, before: u32, after: u32)
+pub(crate) fn unsettle_above_place<S: Source + Copy>(
+    slots: &mut [Slot<S>],
+    place: usize,
+    before: u32,
+    after: u32,
+)
     requires { ⌜ place ≤ length (now slots) ⌝ }
     ensures { λ _. ⌜ now (slots .exit) ≡ unsettle-above (frame S·Entry S·Source slot-kind) (with-outcome Nothing) (take place (now (slots .entry))) before after ++ drop place (now (slots .entry)) ⌝ }
 {
@@ -49,7 +54,12 @@ pub(crate) fn longest_between<S: Source>(slots: &[Slot<S>], place: usize, end: u
 
 // Unsettles what a change at a place leaves unsettled, where the rows from the place on had the given longest frame before and now go
 // up to the end.
-pub(crate) fn unsettle<S: Source + Copy>(slots: &mut [Slot<S>], place: usize, end: usize, before: u32)
+pub(crate) fn unsettle<S: Source + Copy>(
+    slots: &mut [Slot<S>],
+    place: usize,
+    end: usize,
+    before: u32,
+)
     requires { ⌜ place ≤ end ⌝ ∗ ⌜ end ≤ length (now slots) ⌝ }
     ensures { λ _. ⌜ now (slots .exit) ≡ unsettled-memory S·Entry S·Source place end before (now (slots .entry)) ⌝ }
 {

@@ -26,7 +26,7 @@ returns-then-not-at g c =
     let at = c .locate-at .result in
     let passed = row-passed (c .args .row .deadline) (g .S·Source .jitter (c .args .row .source)) (c .in-Continue-check-row .ensures tt) in
     let lacks : is-in (g .S·Entry) (g .S·Source) slots (g .S·Entry .identifier (c .args .row .source)) rows ≡ false =
-      ap (λ n. is-in (g .S·Entry) (g .S·Source) slots n rows) (sym (c .identifier .ensures)) ∙ sym (c .locate-at .ensures .taken) ∙ not-true (at .taken) (c .if-not-at .taken) in
+    ap (λ n. is-in (g .S·Entry) (g .S·Source) slots n rows) (sym (c .identifier .ensures)) ∙ sym (c .locate-at .ensures .taken) ∙ not-true (at .taken) (c .if-not-at .taken) in
     let is : amend-memory (g .S·Entry) (g .S·Source) (c .args .row) memory ≡ refused 25 = amend-absent (g .S·Entry) (g .S·Source) slots (c .args .row .source) (c .args .row .deadline) rows (passed .0) (passed .1) lacks in
     record { answer = sym (ap count-of is); memory = sym (ap (λ a. stored memory a .places) is) }
 
@@ -39,16 +39,16 @@ returns g c =
     let passed = row-passed (c .args .row .deadline) (g .S·Source .jitter (c .args .row .source)) (c .in-Continue-check-row .ensures tt) in
     let named = c .identifier .ensures in
     let has : is-in (g .S·Entry) (g .S·Source) slots (g .S·Entry .identifier (c .args .row .source)) rows ≡ true =
-      ap (λ n. is-in (g .S·Entry) (g .S·Source) slots n rows) (sym named) ∙ sym (c .locate-at .ensures .taken) ∙ not-false (at .taken) (c .if-not-at .left) in
+    ap (λ n. is-in (g .S·Entry) (g .S·Source) slots n rows) (sym named) ∙ sym (c .locate-at .ensures .taken) ∙ not-false (at .taken) (c .if-not-at .left) in
     let place : at .place ≡ place-in (g .S·Entry) (g .S·Source) slots (g .S·Entry .identifier (c .args .row .source)) rows =
-      c .locate-at .ensures .place ∙ ap (λ n. place-in (g .S·Entry) (g .S·Source) slots n rows) named in
+    c .locate-at .ensures .place ∙ ap (λ n. place-in (g .S·Entry) (g .S·Source) slots n rows) named in
     let stands = c .locate-at .ensures .within .1 .1 (not-false (at .taken) (c .if-not-at .left)) in
     let new : Slot (g .S .Denot) = record { row = c .args .row; outcome = None } in
     let is : amend-memory (g .S·Entry) (g .S·Source) (c .args .row) memory ≡ made (become (g .S·Entry) (g .S·Source) slots (at .place) (new ∷ drop (suc (at .place)) rows) rows) =
-      amend-made (g .S·Entry) (g .S·Source) slots (c .args .row .source) (c .args .row .deadline) rows (passed .0) (passed .1) has (at .place) place in
+    amend-made (g .S·Entry) (g .S·Source) slots (c .args .row .source) (c .args .row .deadline) rows (passed .0) (passed .1) has (at .place) place in
     record {
       answer = ap made (sym (amended-length (g .S·Entry) (g .S·Source) e (c .args .used) (at .count) (at .place) (c .longest-between-before .result) (c .locate-at .ensures .count) (omega arith) (omega arith) (c .longest-between-before .ensures) new stands)) ∙ sym (ap count-of is);
       memory = c .unsettle .ensures
-        ∙ amended-laid (g .S·Entry) (g .S·Source) e (c .args .used) (at .count) (at .place) (c .longest-between-before .result) (c .locate-at .ensures .count) (omega arith) (omega arith) (c .longest-between-before .ensures) new stands
-        ∙ sym (ap (λ a. stored memory a .places) is);
+          ∙ amended-laid (g .S·Entry) (g .S·Source) e (c .args .used) (at .count) (at .place) (c .longest-between-before .result) (c .locate-at .ensures .count) (omega arith) (omega arith) (c .longest-between-before .ensures) new stands
+          ∙ sym (ap (λ a. stored memory a .places) is);
     }

@@ -34,8 +34,8 @@ loop-i-again g c =
     let count : length xs ≡ c .min-count .result = length-map rows bound-shown ∙ length-take (c .min-count .result) e ∙ omega arith in
     let none : i - 0 ≡ i = omega arith in
     let is : c .bound .result ≡ getD xs (i - 0) (c .bound .result) =
-      c .bound .ensures ∙ ap bound-shown (c .index-slots-i .is ∙ sym (getD-take (c .min-count .result) e i slot (c .loop-i-test .taken)))
-      ∙ sym (getD-map bound-shown rows i slot (c .bound .result) (omega (arith, length-map rows bound-shown))) ∙ ap (λ k. getD xs k (c .bound .result)) (sym none) in
+    c .bound .ensures ∙ ap bound-shown (c .index-slots-i .is ∙ sym (getD-take (c .min-count .result) e i slot (c .loop-i-test .taken)))
+    ∙ sym (getD-map bound-shown rows i slot (c .bound .result) (omega (arith, length-map rows bound-shown))) ∙ ap (λ k. getD xs k (c .bound .result)) (sym none) in
     ap (λ ys. set ys i (c .bound .result)) (c .loop-i .inv)
     ∙ written 0 i xs list (omega arith) (omega arith) (omega arith) (c .bound .result) (omega arith) (omega arith) is
 
@@ -50,9 +50,9 @@ returns g c =
     let long : ltb (length list) (length rows) ≡ false = le-ltb (length list) (length rows) (omega arith) in
     let end : c .loop-i .i ≡ n = omega arith in
     let whole : take (n - 0) (map bound-shown (take n e)) ≡ map bound-shown rows =
-      take-all (n - 0) (map bound-shown (take n e)) (omega (arith, length-map (take n e) bound-shown, length-take n e)) ∙ ap (map bound-shown) same in
+    take-all (n - 0) (map bound-shown (take n e)) (omega (arith, length-map (take n e) bound-shown, length-take n e)) ∙ ap (map bound-shown) same in
     record {
       answer = ap made count ∙ sym (checked-next (ltb (length list) (length rows)) 32 [] (length rows) long);
       memory = c .loop-i .inv ∙ ap (λ i. laid-out 0 i (map bound-shown (take n e)) list) end ∙ ap₂ (λ a k. a ++ drop k list) whole count
-        ∙ sym (ap (list-after list) (checked-next (ltb (length list) (length rows)) 32 [] (map bound-shown rows ++ drop (length rows) list) long));
+          ∙ sym (ap (list-after list) (checked-next (ltb (length list) (length rows)) 32 [] (map bound-shown rows ++ drop (length rows) list) long));
     }

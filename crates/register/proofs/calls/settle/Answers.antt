@@ -33,11 +33,11 @@ returns-in-Break-outcome g c =
     let memory : Memory (g .S .Denot) = record { places = e; used = c .args .used } in
     let p = err-from-errBy (c .from-residual .result) (c .from-residual .ensures .1) in
     let refusal : answered fault-number (λ n. n) (c .from-residual .result) ≡ refused (analysis.fault-number (c .in-Break-outcome .field-0 .0)) =
-      ap (answered fault-number (λ n. n)) (p .1) ∙ ap refused (p .2) in
+    ap (answered fault-number (λ n. n)) (p .1) ∙ ap refused (p .2) in
     let by-analysis : refused (analysis.fault-number (c .in-Break-outcome .field-0 .0)) ≡ response-answer (models (g .S·Entry) (g .S·Source) slots rows) (map (λ s. s .row .deadline) rows) (at .place) =
-      c .in-Break-outcome .ensures tt ∙ ap (λ rs. response-answer (models (g .S·Entry) (g .S·Source) slots rs) (map (λ s. s .row .deadline) rs) (at .place)) same in
+    c .in-Break-outcome .ensures tt ∙ ap (λ rs. response-answer (models (g .S·Entry) (g .S·Source) slots rs) (map (λ s. s .row .deadline) rs) (at .place)) same in
     let is : settle-memory (g .S·Entry) (g .S·Source) (c .args .identifier) memory ≡ refused (analysis.fault-number (c .in-Break-outcome .field-0 .0)) =
-      settle-refuses (g .S·Entry) (g .S·Source) (c .args .identifier) rows (at .place) has (c .locate-at .ensures .place) inside _ by-analysis in
+    settle-refuses (g .S·Entry) (g .S·Source) (c .args .identifier) rows (at .place) has (c .locate-at .ensures .place) inside _ by-analysis in
     record { answer = refusal ∙ sym (ap count-of is); memory = sym (ap (λ a. stored memory a .places) is) }
 
 pub offset-slots-at : need.offset-slots-at
@@ -59,12 +59,12 @@ returns g c =
     let memory : Memory (g .S .Denot) = record { places = e; used = c .args .used } in
     let o = c .in-Continue-outcome .outcome in
     let by-analysis : made (analysis.outcome-of o) ≡ response-answer (models (g .S·Entry) (g .S·Source) slots rows) (map (λ s. s .row .deadline) rows) (at .place) =
-      c .in-Continue-outcome .ensures tt ∙ ap (λ rs. response-answer (models (g .S·Entry) (g .S·Source) slots rs) (map (λ s. s .row .deadline) rs) (at .place)) same in
+    c .in-Continue-outcome .ensures tt ∙ ap (λ rs. response-answer (models (g .S·Entry) (g .S·Source) slots rs) (map (λ s. s .row .deadline) rs) (at .place)) same in
     let is : settle-memory (g .S·Entry) (g .S·Source) (c .args .identifier) memory ≡ made (change-at (at .place) (with-outcome (Some o)) rows) =
-      settle-stores (g .S·Entry) (g .S·Source) (c .args .identifier) rows (at .place) has (c .locate-at .ensures .place) inside o by-analysis in
+    settle-stores (g .S·Entry) (g .S·Source) (c .args .identifier) rows (at .place) has (c .locate-at .ensures .place) inside o by-analysis in
     record {
       answer = ap made (sym (changed-length (g .S·Entry) (g .S·Source) e (c .args .used) (at .count) (at .place) _ (c .locate-at .ensures .count) (omega arith) (omega arith) refl (with-outcome (Some o)) stands (c .index-slots-at .result) (c .index-slots-at .is))) ∙ sym (ap count-of is);
       memory = ap (set e (at .place)) (c .settled .ensures)
-        ∙ settled-laid (g .S·Entry) (g .S·Source) e (c .args .used) (at .count) (at .place) _ (c .locate-at .ensures .count) (omega arith) (omega arith) refl (with-outcome (Some o)) stands (c .index-slots-at .result) (c .index-slots-at .is)
-        ∙ sym (ap (λ a. stored memory a .places) is);
+          ∙ settled-laid (g .S·Entry) (g .S·Source) e (c .args .used) (at .count) (at .place) _ (c .locate-at .ensures .count) (omega arith) (omega arith) refl (with-outcome (Some o)) stands (c .index-slots-at .result) (c .index-slots-at .is)
+          ∙ sym (ap (λ a. stored memory a .places) is);
     }

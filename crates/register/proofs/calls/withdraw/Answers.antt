@@ -23,11 +23,11 @@ returns g c =
     let has : is-in (g .S·Entry) (g .S·Source) slots (c .args .identifier) rows ≡ true = sym (c .locate-at .ensures .taken) ∙ not-false (at .taken) (c .if-not-at .left) in
     let stands = c .locate-at .ensures .within .1 .1 (not-false (at .taken) (c .if-not-at .left)) in
     let is : withdraw-memory (g .S·Entry) (g .S·Source) (c .args .identifier) memory ≡ made (become (g .S·Entry) (g .S·Source) slots (at .place) (drop (suc (at .place)) rows) rows) =
-      withdraw-made (g .S·Entry) (g .S·Source) slots (c .args .identifier) rows has (at .place) (c .locate-at .ensures .place) in
+    withdraw-made (g .S·Entry) (g .S·Source) slots (c .args .identifier) rows has (at .place) (c .locate-at .ensures .place) in
     record {
       answer = ap made (sym (withdrawn-length (g .S·Entry) (g .S·Source) e (c .args .used) (at .count) (at .place) (c .longest-between-before .result) (c .locate-at .ensures .count) (omega arith) (omega arith) (c .longest-between-before .ensures) stands)) ∙ sym (ap count-of is);
       memory = c .unsettle .ensures
-        ∙ withdrawn-laid (g .S·Entry) (g .S·Source) e (c .args .used) (at .count) (at .place) (c .longest-between-before .result) (c .locate-at .ensures .count) (omega arith) (omega arith) (c .longest-between-before .ensures) stands
+          ∙ withdrawn-laid (g .S·Entry) (g .S·Source) e (c .args .used) (at .count) (at .place) (c .longest-between-before .result) (c .locate-at .ensures .count) (omega arith) (omega arith) (c .longest-between-before .ensures) stands
           (c .remove .last .places) (c .remove .ensures)
-        ∙ sym (ap (λ a. stored memory a .places) is);
+          ∙ sym (ap (λ a. stored memory a .places) is);
     }

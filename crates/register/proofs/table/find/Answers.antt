@@ -13,7 +13,7 @@ returns-then-identifier g c =
 pub loop-place-again : need.loop-place-again
 loop-place-again g c =
     let again : (c .loop-place .place + 1) + place-of (g .E·Entry .identifier) (c .args .identifier) (drop (c .loop-place .place + 1) (c .args .rows .now)) ≡ place-of (g .E·Entry .identifier) (c .args .identifier) (c .args .rows .now) =
-      omega (arith, c .loop-place .inv, found-later (g .E·Entry .identifier) (c .args .identifier) (c .args .rows .now) (c .loop-place .place) (c .index-rows-place .result) (c .loop-place-test .taken) (c .index-rows-place .is) (omega (arith, c .identifier .ensures))) in
+    omega (arith, c .loop-place .inv, found-later (g .E·Entry .identifier) (c .args .identifier) (c .args .rows .now) (c .loop-place .place) (c .index-rows-place .result) (c .loop-place-test .taken) (c .index-rows-place .is) (omega (arith, c .identifier .ensures))) in
     again
 
 pub returns : need.returns

@@ -10,9 +10,10 @@ use Rattle.register.proofs.table.insert.Needs as need
 pub loop-i-holds : need.loop-i-holds
 loop-i-holds g c =
     let place = c .args .place in
-    let none : place - place ≡ 0 = omega arith in
-    (sym (none-written place (c .args .row ∷ drop place (c .args .places .now)) (c .args .places .now)),
-     ap (λ n. getD (c .args .row ∷ drop place (c .args .places .now)) n (c .args .row)) (sym none))
+    let none : place - place ≡ 0 = omega arith in (
+      sym (none-written place (c .args .row ∷ drop place (c .args .places .now)) (c .args .places .now)),
+      ap (λ n. getD (c .args .row ∷ drop place (c .args .places .now)) n (c .args .row)) (sym none),
+    )
 
 pub loop-i-again : need.loop-i-again
 loop-i-again g c =
@@ -21,12 +22,13 @@ loop-i-again g c =
     let i = c .loop-i .i in
     let xs = c .args .row ∷ drop place e in
     let inside : i < length e = omega arith in
-    let enough : i - place < length xs = omega (arith, length-drop place e) in
-    (ap (λ ys. set ys i (c .loop-i .carried)) (c .loop-i .inv .0)
-     ∙ written place i xs e (omega arith) (omega arith) (omega arith) (c .loop-i .carried) inside enough (c .loop-i .inv .1),
-     c .index-places-i .is ∙ ap (λ ys. getD ys i (c .index-places-i .result)) (c .loop-i .inv .0)
-     ∙ not-yet place i xs e (omega arith) (omega arith) (omega arith) i (c .index-places-i .result) (omega arith)
-     ∙ sym (carried-on place i (c .args .row) e (c .index-places-i .result) (omega arith)))
+    let enough : i - place < length xs = omega (arith, length-drop place e) in (
+      ap (λ ys. set ys i (c .loop-i .carried)) (c .loop-i .inv .0)
+          ∙ written place i xs e (omega arith) (omega arith) (omega arith) (c .loop-i .carried) inside enough (c .loop-i .inv .1),
+      c .index-places-i .is ∙ ap (λ ys. getD ys i (c .index-places-i .result)) (c .loop-i .inv .0)
+          ∙ not-yet place i xs e (omega arith) (omega arith) (omega arith) i (c .index-places-i .result) (omega arith)
+          ∙ sym (carried-on place i (c .args .row) e (c .index-places-i .result) (omega arith)),
+    )
 
 pub returns : need.returns
 returns g c =

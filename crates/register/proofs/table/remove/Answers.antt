@@ -19,7 +19,7 @@ loop-i-again g c =
     let x = c .index-places-i .result in
     let enough : i - place < length xs = omega (arith, length-drop (place + 1) e) in
     let is : x ≡ getD xs (i - place) x =
-      c .index-places-i .is ∙ ap (λ ys. getD ys (i + 1) x) (c .loop-i .inv)
-      ∙ not-yet place i xs e (omega arith) (omega arith) (omega arith) (i + 1) x (omega arith)
-      ∙ sym (moved-up place i e x (omega arith)) in
+    c .index-places-i .is ∙ ap (λ ys. getD ys (i + 1) x) (c .loop-i .inv)
+    ∙ not-yet place i xs e (omega arith) (omega arith) (omega arith) (i + 1) x (omega arith)
+    ∙ sym (moved-up place i e x (omega arith)) in
     ap (λ ys. set ys i x) (c .loop-i .inv) ∙ written place i xs e (omega arith) (omega arith) (omega arith) x (omega arith) enough is

@@ -20,11 +20,11 @@ returns g c =
     let fr = frame (g .S·Entry) (g .S·Source) slots in
     let above : ℕ → List (Slot (g .S .Denot)) = λ after. unsettle-above fr (with-outcome None) (take place e) (c .args .before) after in
     let count : length (above (c .longest-between-after .result)) ≡ place =
-      length-unsettle fr (with-outcome None) (take place e) (c .args .before) (c .longest-between-after .result) ∙ length-take-le place e (omega arith) in
+    length-unsettle fr (with-outcome None) (take place e) (c .args .before) (c .longest-between-after .result) ∙ length-take-le place e (omega arith) in
     let first = c .unsettle-above-place .ensures in
     c .unsettle-from .ensures
     ∙ ap (λ m. take place m ++ (map (with-outcome None) (take (end - place) (drop place m)) ++ drop end m)) first
     ∙ ap₂ (λ u d. u ++ (map (with-outcome None) (take (end - place) d) ++ drop end (above (c .longest-between-after .result) ++ drop place e)))
-      (take-at (above (c .longest-between-after .result)) (drop place e) place count) (drop-at (above (c .longest-between-after .result)) (drop place e) place count)
+    (take-at (above (c .longest-between-after .result)) (drop place e) place count) (drop-at (above (c .longest-between-after .result)) (drop place e) place count)
     ∙ ap₂ (λ u d. u ++ (map (with-outcome None) (take (end - place) (drop place e)) ++ d)) (ap above (c .longest-between-after .ensures))
-      (drop-past (above (c .longest-between-after .result)) e place end count (omega arith))
+    (drop-past (above (c .longest-between-after .result)) e place end count (omega arith))

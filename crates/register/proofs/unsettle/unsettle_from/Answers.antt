@@ -27,9 +27,9 @@ loop-i-again g c =
     let slot = c .index-slots-i .result in
     let count : length xs ≡ length e - place = length-map (drop place e) (with-outcome None) ∙ length-drop place e in
     let was : slot ≡ getD e i slot =
-      c .index-slots-i .is ∙ ap (λ ys. getD ys i slot) (c .loop-i .inv) ∙ not-yet place i xs e (omega arith) (omega arith) (omega arith) i slot (omega arith) in
+    c .index-slots-i .is ∙ ap (λ ys. getD ys i slot) (c .loop-i .inv) ∙ not-yet place i xs e (omega arith) (omega arith) (omega arith) i slot (omega arith) in
     let is : c .unsettled .result ≡ getD xs (i - place) (c .unsettled .result) =
-      c .unsettled .ensures ∙ mapped-at (with-outcome None) place i e slot (c .unsettled .result) (omega arith) (omega arith) was in
+    c .unsettled .ensures ∙ mapped-at (with-outcome None) place i e slot (c .unsettled .result) (omega arith) (omega arith) was in
     ap (λ ys. set ys i (c .unsettled .result)) (c .loop-i .inv)
     ∙ written place i xs e (omega arith) (omega arith) (omega arith) (c .unsettled .result) (omega arith) (omega arith) is
 

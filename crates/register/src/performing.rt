@@ -53,7 +53,11 @@ impl<'a, S: Source + Copy> Register<'a, S> {
 }
 
 // Opens an empty register over the slots and performs uses in their order, as many as there are places for answers; answers how many.
-pub fn perform<S: Source + Copy>(slots: &mut [Slot<S>], uses: &[Use<S>], answers: &mut [Answer]) -> usize
+pub fn perform<S: Source + Copy>(
+    slots: &mut [Slot<S>],
+    uses: &[Use<S>],
+    answers: &mut [Answer],
+) -> usize
     ensures count { λ r. ⌜ r ≡ min (length (now (uses .entry))) (length (now (answers .entry))) ⌝ }
     ensures rest { λ r. ⌜ drop r (now (answers .exit)) ≡ drop r (now (answers .entry)) ⌝ }
     ensures memory { λ r. ⌜ now (slots .exit) ≡ (memory-after S·Entry S·Source (opened (now (slots .entry))) (take r (now (uses .entry)))) .places ⌝ }

@@ -9,8 +9,8 @@ use Rattle.register.specs.declared.slot.Slot.{Slot}
 use Rattle.register.specs.Slots.{Memory, opened}
 use Rattle.register.specs.Steps.{reply-of, register-replies, memory-after}
 use Rattle.register.proofs.PerformLaws.{memory-next, replies-next, promise-kept}
-use Rattle.register.proofs.perform.perform.Given as given
-use Rattle.register.proofs.perform.perform.Needs as need
+use Rattle.register.proofs.performing.perform.Given as given
+use Rattle.register.proofs.performing.perform.Needs as need
 
 abbrev memory-of : (g : given.Over) → List (Slot (g .S .Denot)) → ℕ → Memory (g .S .Denot)
 memory-of g places used = record { places = places; used = used }
@@ -25,12 +25,13 @@ loop-i-again g c =
     let uses = c .args .uses .now in
     let places = c .open-register .result .slots .now in
     let inside : i < length uses = omega arith in
-    let now-memory = memory-of g (c .loop-i .register .slots .now) (c .loop-i .register .used) in
-    (memory-next (g .S·Entry) (g .S·Source) places uses i (c .index-uses-i .result) inside (c .index-uses-i .is) now-memory (c .loop-i .inv .0) _ (c .apply .ensures .memory),
-     ap (map reply-of) (take-more-set (c .loop-i .answers) i (c .apply .result) (omega arith)) ∙ map-push reply-of (take i (c .loop-i .answers)) (c .apply .result)
-     ∙ replies-next (g .S·Entry) (g .S·Source) places uses i (c .index-uses-i .result) inside (c .index-uses-i .is) now-memory (c .loop-i .inv .0) _ (c .loop-i .inv .1) _ (c .apply .ensures .answer),
-     drop-next i (c .loop-i .answers) (c .args .answers .now) (c .apply .result) (c .loop-i .inv .2),
-     c .apply .ensures .same ∙ c .loop-i .inv .3)
+    let now-memory = memory-of g (c .loop-i .register .slots .now) (c .loop-i .register .used) in (
+      memory-next (g .S·Entry) (g .S·Source) places uses i (c .index-uses-i .result) inside (c .index-uses-i .is) now-memory (c .loop-i .inv .0) _ (c .apply .ensures .memory),
+      ap (map reply-of) (take-more-set (c .loop-i .answers) i (c .apply .result) (omega arith)) ∙ map-push reply-of (take i (c .loop-i .answers)) (c .apply .result)
+          ∙ replies-next (g .S·Entry) (g .S·Source) places uses i (c .index-uses-i .result) inside (c .index-uses-i .is) now-memory (c .loop-i .inv .0) _ (c .loop-i .inv .1) _ (c .apply .ensures .answer),
+      drop-next i (c .loop-i .answers) (c .args .answers .now) (c .apply .result) (c .loop-i .inv .2),
+      c .apply .ensures .same ∙ c .loop-i .inv .3,
+    )
 
 pub returns : need.returns
 returns g c =
@@ -39,11 +40,11 @@ returns g c =
     let uses = c .args .uses .now in
     let open-places : c .open-register .result .slots .now ≡ c .args .slots .now = ap (λ m. m .places) (c .open-register .ensures .memory) in
     let last : c .loop-i .register .slots .now ≡ memory-after (g .S·Entry) (g .S·Source) (opened (c .args .slots .now)) (take n uses) .places =
-      ap (λ m. m .places) (c .loop-i .inv .0) ∙ ap₂ (λ ps i. memory-after (g .S·Entry) (g .S·Source) (opened ps) (take i uses) .places) open-places end in
+    ap (λ m. m .places) (c .loop-i .inv .0) ∙ ap₂ (λ ps i. memory-after (g .S·Entry) (g .S·Source) (opened ps) (take i uses) .places) open-places end in
     let names = c .loop-i .inv .3 ∙ c .open-register .ensures .same in
     let replies : map reply-of (take n (c .loop-i .answers)) ≡ register-replies (g .S·Entry) (g .S·Source) (length (c .args .slots .now)) [] (take n uses) =
-      ap (λ i. map reply-of (take i (c .loop-i .answers))) (sym end) ∙ c .loop-i .inv .1
-      ∙ ap₂ (λ ps i. register-replies (g .S·Entry) (g .S·Source) (length ps) [] (take i uses)) open-places end in
+    ap (λ i. map reply-of (take i (c .loop-i .answers))) (sym end) ∙ c .loop-i .inv .1
+    ∙ ap₂ (λ ps i. register-replies (g .S·Entry) (g .S·Source) (length ps) [] (take i uses)) open-places end in
     record {
       count = c .min-count .ensures;
       rest = ap (λ i. drop i (c .loop-i .answers)) (sym end) ∙ c .loop-i .inv .2 ∙ ap (λ i. drop i (c .args .answers .now)) end;

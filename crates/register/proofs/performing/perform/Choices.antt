@@ -4,7 +4,7 @@ use denote.Ref.{name}
 use lib.ListN.{length, take, drop}
 use Rattle.register.specs.Slots.{Memory, opened}
 use Rattle.register.specs.Steps.{reply-of, register-replies, memory-after}
-use Rattle.register.proofs.perform.perform.Given as given
+use Rattle.register.proofs.performing.perform.Given as given
 
 abbrev pub Inv-loop-i : given.InvT-loop-i
 Inv-loop-i g l =
