@@ -1,4 +1,6 @@
 // The worked cases: shown of the definitions by one proof, and worked out again by the calls.
+mod offices;
+
 ghost use mathlib.Core.Path.{_≡_};
 ghost use Rattle.response.specs.Views.{verdict-of};
 ghost use Rattle.worked.specs.Cases.{WorkedCases};
@@ -223,5 +225,6 @@ fn main(rt: LibcRuntime) -> Result<(), AnyError> {
     show_refusal(&rt)?;
     judge_two_rows(&rt)?;
     judge_three_rows(&rt)?;
-    judge_full_bus(&rt)
+    judge_full_bus(&rt)?;
+    offices::play_offices(&rt)
 }
