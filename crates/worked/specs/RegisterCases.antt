@@ -25,17 +25,17 @@ cyclic-sources = record {
   traffic = λ c. CyclicTraffic (c .cycle) (c .period);
 }
 
--- A cyclic row in the standard format, by its identifier, its period, which is its deadline too, and its payloads.
-abbrev pub cyclic-row : ℕ → ℕ → List ℕ → Row CyclicValues
-cyclic-row identifier period payloads = record {
+-- A cyclic row in the standard format, by its identifier, its period, its deadline and its payloads.
+abbrev pub cyclic-row : ℕ → ℕ → ℕ → List ℕ → Row CyclicValues
+cyclic-row identifier period deadline payloads = record {
   source = record { identifier = identifier; period = period; cycle = map (longest-frame 55) payloads };
-  deadline = period;
+  deadline = deadline;
 }
 
--- The three rows are entered and settled, the lowest is amended, and then each is looked up.
+-- The three rows are entered, settled and looked up; then the lowest is amended, and each is looked up again.
 abbrev pub amended-uses : Row CyclicValues → List (Use CyclicValues)
 amended-uses row =
-    Enter (cyclic-row 1 200 (2 ∷ 4 ∷ 1 ∷ [])) ∷ Enter (cyclic-row 2 350 (2 ∷ [])) ∷ Enter (cyclic-row 3 1000 (5 ∷ []))
+    Enter (cyclic-row 1 200 200 (2 ∷ 4 ∷ 1 ∷ [])) ∷ Enter (cyclic-row 2 350 350 (2 ∷ [])) ∷ Enter (cyclic-row 3 1000 1000 (5 ∷ []))
     ∷ Settle 1 ∷ Settle 2 ∷ Settle 3 ∷ LookUp 1 ∷ LookUp 2 ∷ LookUp 3
     ∷ Amend row ∷ LookUp 1 ∷ LookUp 2 ∷ LookUp 3 ∷ []
 
@@ -45,16 +45,16 @@ amended-replies first second third =
     done ∷ done ∷ done ∷ done ∷ done ∷ done ∷ shown (ok 200 2) ∷ shown (ok 350 6) ∷ shown (ok 275 5)
     ∷ done ∷ first ∷ second ∷ third ∷ []
 
--- A longer period of the lowest row unsettles that row alone: the rows above show what they showed.
+-- A longer period of the lowest row unsettles that row alone: the rows above it show what they showed.
 abbrev pub longer-period : List (Use CyclicValues)
-longer-period = amended-uses (cyclic-row 3 2000 (5 ∷ []))
+longer-period = amended-uses (cyclic-row 3 2000 1000 (5 ∷ []))
 
 abbrev pub two-kept : List Reply
 two-kept = amended-replies (shown (ok 200 2)) (shown (ok 350 6)) (denied 26)
 
 -- A shorter payload of the lowest row shortens the longest frame below each row above, and unsettles all three.
 abbrev pub shorter-payload : List (Use CyclicValues)
-shorter-payload = amended-uses (cyclic-row 3 1000 (4 ∷ []))
+shorter-payload = amended-uses (cyclic-row 3 1000 1000 (4 ∷ []))
 
 abbrev pub none-kept : List Reply
 none-kept = amended-replies (denied 26) (denied 26) (denied 26)
