@@ -11,6 +11,7 @@ use Rattle.sources.proofs.CyclicLaws.{cyclic-count}
 use Rattle.response.specs.Searches.{failed, fixed-point}
 use Rattle.response.specs.Bounds.{load, Place, place, busy-search, ok, none, response}
 use Rattle.worked.specs.Cases.{WorkedCases, CyclicCase, BurstCase, TwoRowsCase, ThreeRowsCase, FullBusCase, full-row, crowded-rows}
+use Rattle.worked.specs.RegisterCases.{RegisterCase}
 
 cyclic-case : CyclicCase
 cyclic-case = record { work-1 = refl; work-2 = refl; work-3 = refl; count-200 = refl; count-201 = refl }
@@ -68,5 +69,9 @@ crowded-fails = refl
 full-bus-case : FullBusCase
 full-bus-case = record { alone = alone-case; crowded = without-bound (place crowded-rows 0) 135 7407 (crowded-search ∙ crowded-fails) }
 
+register-case : RegisterCase
+unfolding fixed-point
+register-case = record { reference-period = refl; reference-payload = refl; register-period = refl; register-payload = refl }
+
 pub worked-cases : WorkedCases
-worked-cases = record { cyclic = cyclic-case; burst = burst-case; two = two-rows-case; three = three-rows-case; full = full-bus-case }
+worked-cases = record { cyclic = cyclic-case; burst = burst-case; two = two-rows-case; three = three-rows-case; full = full-bus-case; register = register-case }

@@ -8,6 +8,7 @@ use Rattle.sources.specs.Streams.{Model}
 use Rattle.sources.specs.Cycles.{cycle-work, cyclic-gap, cyclic-model}
 use Rattle.sources.specs.Bursts.{burst-gap}
 use Rattle.response.specs.Bounds.{response, ok, late, none, place}
+use Rattle.worked.specs.RegisterCases.{RegisterCase}
 
 -- The frames of payloads of 2, 4 and 1 bytes in the standard format.
 abbrev pub three-frames : List ℕ
@@ -69,3 +70,4 @@ pub record WorkedCases : Type 0 where
   pub two : TwoRowsCase
   pub three : ThreeRowsCase
   pub full : FullBusCase
+  pub register : RegisterCase

@@ -1,3 +1,4 @@
+pub mod RegisterCases
 pub mod Cases
 pub mod Reached
 pub mod Words
