@@ -37,7 +37,7 @@ fn cases_hold()
 {}
 
 // Lawful runs of the two rows reach responses of 229 in the upper row and of 230 in the lower, so that some runs are lawful.
-fn bounds_are_reached()
+fn responses_are_reached()
     ensures { λ _. ⌜ BothReached ⌝ }
 {}
 
@@ -219,7 +219,7 @@ fn judge_full_bus(rt: &impl Print) -> Result<(), AnyError> {
 
 fn main(rt: LibcRuntime) -> Result<(), AnyError> {
     cases_hold();
-    bounds_are_reached();
+    responses_are_reached();
     show_cyclic(&rt)?;
     show_burst(&rt)?;
     show_refusal(&rt)?;
