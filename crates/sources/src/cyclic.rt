@@ -75,6 +75,15 @@ pub impl<F: Format<Id = I>, I: Identifier> Entry for Cyclic<F, I> as CyclicEntry
     }
 }
 
+impl<F: Format<Id = I>, I: Identifier> Cyclic<F, I> {
+    // The number of periods that begin within a time.
+    fn periods_within(&self, x: u32) -> u32
+        ensures { λ r. ⌜ r ≡ (argument x + (now (self .entry) .period - 1)) / now (self .entry) .period ⌝ }
+    {
+        (x.min(2_000_001) + (self.period - 1)) / self.period
+    }
+}
+
 pub impl<F: Format<Id = I>, I: Identifier> Source for Cyclic<F, I> as CyclicSource {
     ghost gap = { λ c. cyclic-gap (c .period) };
 
@@ -104,6 +113,6 @@ pub impl<F: Format<Id = I>, I: Identifier> Source for Cyclic<F, I> as CyclicSour
         ensures value { λ r. ⌜ r ≡ count (cyclic-gap (now (self .entry) .period)) (argument x) ⌝ }
         ensures closed { λ r. ⌜ r ≡ (argument x + (now (self .entry) .period - 1)) / now (self .entry) .period ⌝ }
     {
-        (x.min(2_000_001) + (self.period - 1)) / self.period
+        self.periods_within(x)
     }
 }
