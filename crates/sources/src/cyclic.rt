@@ -76,6 +76,13 @@ pub impl<F: Format<Id = I>, I: Identifier> Entry for Cyclic<F, I> as CyclicEntry
 }
 
 impl<F: Format<Id = I>, I: Identifier> Cyclic<F, I> {
+    // The most bit times of a number of successive instances.
+    fn most_of(&self, k: u32) -> u32
+        ensures { λ r. ⌜ r ≡ cycle-work (lengths-of (now (self .entry) .cycle)) (argument k) ⌝ }
+    {
+        self.cycle.work(k.min(2_000_001))
+    }
+
     // The number of periods that begin within a time.
     fn periods_within(&self, x: u32) -> u32
         ensures { λ r. ⌜ r ≡ (argument x + (now (self .entry) .period - 1)) / now (self .entry) .period ⌝ }
@@ -102,7 +109,7 @@ pub impl<F: Format<Id = I>, I: Identifier> Source for Cyclic<F, I> as CyclicSour
         ensures value { λ r. ⌜ r ≡ cycle-work (lengths-of (now (self .entry) .cycle)) (argument k) ⌝ }
         ensures rounds { λ _. ⌜ WholeRounds (lengths-of (now (self .entry) .cycle)) ⌝ }
     {
-        self.cycle.work(k.min(2_000_001))
+        self.most_of(k)
     }
 
     fn jitter(&self) -> u32 {

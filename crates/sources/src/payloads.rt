@@ -3,16 +3,24 @@ ghost use mathlib.Core.Path.{_≡_};
 ghost use mathlib.Core.Bool.{false};
 ghost use mathlib.Core.List.{map};
 ghost use Prim.Native.Nat.{ℕ, _≤_};
+ghost use lib.Dec.{ltb};
 ghost use lib.ListN.{length, take};
 ghost use Rattle.sources.specs.Answers.{some-above};
 use frames::Format;
+
+// Whether a payload has more than eight bytes.
+fn too_long(payload: u8) -> bool
+    ensures { λ r. ⌜ r ≡ ltb 8 payload ⌝ }
+{
+    payload > 8
+}
 
 // Whether some payload has more than eight bytes.
 pub(crate) fn oversized(payloads: &[u8]) -> bool
     ensures { λ r. ⌜ r ≡ some-above 8 (now (payloads .entry)) ⌝ }
 {
     for payload in payloads {
-        if *payload > 8 {
+        if too_long(*payload) {
             return true;
         }
     }

@@ -1,5 +1,3 @@
-use mathlib.Core.Path.{_≡_, ap, _∙_}
-use Rattle.sources.specs.Cycles.{cycle-work}
 use Rattle.sources.specs.Values.{lengths-of}
 use Rattle.sources.proofs.Cycles.{cycle-work-closed}
 use Rattle.sources.proofs.cyclic.CyclicSource.work.Needs as need
@@ -7,4 +5,4 @@ use Rattle.sources.proofs.cyclic.CyclicSource.work.Needs as need
 pub returns : need.returns
 returns g c =
     let cycle = c .args .self .now .cycle in
-    record { value = c .work .ensures ∙ ap (cycle-work (lengths-of cycle)) (c .min .ensures); rounds = cycle-work-closed (lengths-of cycle) (cycle .frames) }
+    record { value = c .most-of .ensures; rounds = cycle-work-closed (lengths-of cycle) (cycle .frames) }
