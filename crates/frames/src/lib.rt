@@ -1,4 +1,6 @@
 // The two frame formats of a CAN bus: their identifiers, and the longest frame for each payload.
+#![tactic(auto)]
+
 ghost use Rattle.std.specs.Prelude.{◌≡◌, map, ℕ, ◌^◌, ◌<◌, ◌≤◌};
 ghost use Rattle.frames.specs.Frames.{longest_frame, payload_sizes, payload_bytes};
 ghost use Rattle.std.proofs.Common.{rules};

@@ -1,4 +1,6 @@
 // A register of the messages on one bus, in memory that the caller lends.
+#![tactic(auto)]
+
 mod calls;
 mod changes;
 mod performing;

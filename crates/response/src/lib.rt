@@ -1,4 +1,6 @@
 // The response bound of one message among the messages of a bus.
+#![tactic(auto)]
+
 mod analysis;
 mod curves;
 mod fixed_point;

@@ -1,4 +1,6 @@
 // The message sources of a CAN bus: what they may send, and what they answer about it.
+#![tactic(auto)]
+
 mod burst;
 mod cycle;
 mod cyclic;

@@ -1,5 +1,7 @@
 // Analyses every row of a table at high load and prints the sum of what was answered. Given a number of turns, it does so that many
 // times, each time with other deadlines, and also prints how many nanoseconds the shortest turn took.
+#![tactic(auto)]
+
 use anyhow::anyhow;
 use frames::Standard;
 use response::{Outcome, Row, respond};

@@ -1,4 +1,6 @@
 // The worked cases: shown of the definitions by one proof, and worked out again by the calls.
+#![tactic(auto)]
+
 mod offices;
 
 ghost use Rattle.std.specs.Prelude.{◌≡◌};

@@ -13,8 +13,8 @@ returns-in-err-outcome g c =
     (not-false c.locate-at.result.taken c.if-not-at.false) c.from-residual.result _ _ p.1 p.2 c.in-err-outcome.ensures in
     record { answer = denied.0; memory = denied.1 }
 
-pub offset-bounds-slots-at : goal.offset-bounds-slots-at
-offset-bounds-slots-at g c = offset_fits c.locate-at.result.place (length c.args.slots.now) _ (omega arith) c.well-formed.0.1
+pub offset_bounds-slots-at : goal.offset_bounds-slots-at
+offset_bounds-slots-at g c = offset_fits c.locate-at.result.place (length c.args.slots.now) _ (omega arith) c.well_formed.0.1
 
 pub returns : goal.returns
 returns g c =

@@ -12,8 +12,8 @@ loop-i-init g c = (
   sym (longest_none (frame g.S.Entry g.S.Source slots) (with_outcome None) c.args.slots.now c.args.place c.args.before c.args.after c.requires),
 )
 
-pub offset-bounds-slots-i : goal.offset-bounds-slots-i
-offset-bounds-slots-i g c = offset_fits (c.loop-i.i - 1) (length c.args.slots.now) _ (omega arith) c.well-formed.0.1
+pub offset_bounds-slots-i : goal.offset_bounds-slots-i
+offset_bounds-slots-i g c = offset_fits (c.loop-i.i - 1) (length c.args.slots.now) _ (omega arith) c.well_formed.0.1
 
 pub loop-i-preserved : goal.loop-i-preserved
 loop-i-preserved g c =
@@ -30,7 +30,7 @@ loop-i-preserved g c =
     c.index-slots-i.is ∙ ap (λ xs. get_or xs j slot) was ∙ not_done_yet fr (with_outcome None) e c.args.place c.args.before c.args.after j (omega arith) c.requires slot in
     let work : c.work.result ≡ fr slot = c.work.ensures in (
       c.put.ensures
-          ∙ ap₂ (λ xs x. set xs j x) was (c.unsettled-by.ensures ∙ ap₂ (λ x y. unsettle_by (with_outcome None) x y slot) (c.max.ensures ∙ ap (λ n. max n c.args.before) below) (c.max-in-loop-i.ensures ∙ ap (λ n. max n c.args.after) below))
+          ∙ ap₂ (λ xs x. set xs j x) was (c.unsettled_by.ensures ∙ ap₂ (λ x y. unsettle_by (with_outcome None) x y slot) (c.max.ensures ∙ ap (λ n. max n c.args.before) below) (c.max-in-loop-i.ensures ∙ ap (λ n. max n c.args.after) below))
           ∙ judged fr (with_outcome None) e c.args.place c.args.before c.args.after j (omega arith) c.requires slot is,
       omega (arith, longest_next fr (with_outcome None) e c.args.place c.args.before c.args.after j (omega arith) c.requires slot is),
     )

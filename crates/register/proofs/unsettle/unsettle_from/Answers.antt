@@ -7,8 +7,8 @@ use Rattle.register.proofs.unsettle.unsettle_from.Goals as goal
 pub loop-i-init : goal.loop-i-init
 loop-i-init g c = sym (none_written c.args.place (map (with_outcome None) (drop c.args.place c.args.slots.now)) c.args.slots.now)
 
-pub offset-bounds-slots-i : goal.offset-bounds-slots-i
-offset-bounds-slots-i g c = offset_fits c.loop-i.i (length c.args.slots.now) _ (omega arith) c.well-formed.0.1
+pub offset_bounds-slots-i : goal.offset_bounds-slots-i
+offset_bounds-slots-i g c = offset_fits c.loop-i.i (length c.args.slots.now) _ (omega arith) c.well_formed.0.1
 
 pub loop-i-preserved : goal.loop-i-preserved
 loop-i-preserved g c =

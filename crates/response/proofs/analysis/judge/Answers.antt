@@ -10,7 +10,7 @@ use Rattle.response.proofs.Bounds.{ended_fixed}
 use Rattle.response.proofs.Judging.{as_it_is, counted_instances, within_period, next_within, all_within, judged_more}
 use Rattle.response.proofs.analysis.judge.Given as given
 use Rattle.response.proofs.analysis.judge.Goals as goal
-use Rattle.response.proofs.analysis.judge.Goals.{After-instances-within-q-end}
+use Rattle.response.proofs.analysis.judge.Goals.{After-instances_within-q-end}
 
 -- The row as its analysis sees it.
 module _ (g : given.Over) (above : List g.row.L.Denot) (source : g.row.S.Denot) (blocking : ℕ) where
@@ -24,7 +24,7 @@ module _ (g : given.Over) (above : List g.row.L.Denot) (source : g.row.S.Denot) 
   own = g.met.S.Source.lawful source
 
 -- The row at the start of its judgement, with the number of its instances.
-module _ (g : given.Over) (n : After-instances-within-q-end g) where
+module _ (g : given.Over) (n : After-instances_within-q-end g) where
   abbrev here : Place
   here = the_place g n.args.above.now n.args.source.now n.args.blocking
 
@@ -34,78 +34,78 @@ module _ (g : given.Over) (n : After-instances-within-q-end g) where
   own_here : Laws here.own
   own_here = own g n.args.above.now n.args.source.now n.args.blocking
 
-  number_is : n.instances-within-q-end.result ≡ instances here n.args.end
+  number_is : n.instances_within-q-end.result ≡ instances here n.args.end
   number_is =
-      counted_instances here upper_here own_here n.pre.small.0 n.args.end n.args.rounds n.pre.ends n.pre.small.1 n.instances-within-q-end.result n.instances-within-q-end.ensures
+      counted_instances here upper_here own_here n.pre.small.0 n.args.end n.args.rounds n.pre.ends n.pre.small.1 n.instances_within-q-end.result n.instances_within-q-end.ensures
 
-  inside : (q : ℕ) → q < n.instances-within-q-end.result → q < instances here n.args.end
+  inside : (q : ℕ) → q < n.instances_within-q-end.result → q < instances here n.args.end
   inside q l = omega (arith, number_is)
 
-  early : (q : ℕ) → q < n.instances-within-q-end.result → q < horizon
+  early : (q : ℕ) → q < n.instances_within-q-end.result → q < horizon
   early q l = (within_period here upper_here own_here n.pre.small.0 n.args.end n.args.rounds n.pre.ends q (inside q l)).0
 
-pub instances-within-q-end-requires : goal.instances-within-q-end-requires
-instances-within-q-end-requires g c =
+pub instances_within-q-end-requires : goal.instances_within-q-end-requires
+instances_within-q-end-requires g c =
     (ended_fixed (the_place g c.args.above.now c.args.source.now c.args.blocking) (upper g c.args.above.now c.args.source.now c.args.blocking) (own g c.args.above.now c.args.source.now c.args.blocking) c.args.end c.args.rounds c.requires.ends).2
 
-pub overflow-add-held : goal.overflow-add-held
-overflow-add-held g c =
-    let n = (goal.at.overflow-add-held g c).After-instances-within-q-end in
+pub overflow_add-held : goal.overflow_add-held
+overflow_add-held g c =
+    let n = (goal.at.overflow_add-held g c).After-instances_within-q-end in
     let period = within_period (here g n) (upper_here g n) (own_here g n) c.requires.small.0 c.args.end c.args.rounds c.requires.ends c.loop-q.q (inside g n c.loop-q.q c.loop-q-test.true) in
     let before = ap (g.S.Source.work c.args.source.now) (as_it_is c.loop-q.q period.0) in
     omega (arith, period.1)
 
-pub overflow-add-all-rounds : goal.overflow-add-all-rounds
-overflow-add-all-rounds g c =
-    let n = (goal.at.overflow-add-all-rounds g c).After-instances-within-q-end in
+pub overflow_add-all_rounds : goal.overflow_add-all_rounds
+overflow_add-all_rounds g c =
+    let n = (goal.at.overflow_add-all_rounds g c).After-instances_within-q-end in
     omega (
       arith,
-      c.rounds-all-rounds.ensures,
+      c.rounds-all_rounds.ensures,
       all_within (here g n) (upper_here g n) (own_here g n) c.requires.small.0 c.args.end c.args.rounds c.requires.ends c.loop-q.q (inside g n c.loop-q.q c.loop-q-test.true)
-          c.work.result c.loop-q.start (found_of c.search-found.result) c.work.ensures c.loop-q.invariant.0 c.search-found.ensures.value c.loop-q.all-rounds c.loop-q.invariant.2,
+          c.work.result c.loop-q.start (found_of c.search-found.result) c.work.ensures c.loop-q.invariant.0 c.search-found.ensures.value c.loop-q.all_rounds c.loop-q.invariant.2,
     )
 
-pub length-of-requires : goal.length-of-requires
-length-of-requires g c =
-    let n = (goal.at.length-of-requires g c).After-instances-within-q-end in
+pub length_of-requires : goal.length_of-requires
+length_of-requires g c =
+    let n = (goal.at.length_of-requires g c).After-instances_within-q-end in
     omega (arith, early g n c.loop-q.q c.loop-q-test.true)
 
-pub overflow-add-start : goal.overflow-add-start
-overflow-add-start g c =
-    let n = (goal.at.overflow-add-start g c).After-instances-within-q-end in
+pub overflow_add-start : goal.overflow_add-start
+overflow_add-start g c =
+    let n = (goal.at.overflow_add-start g c).After-instances_within-q-end in
     omega (
       arith,
       c.value.ensures,
       next_within (here g n) (upper_here g n) (own_here g n) c.requires.small.0 c.args.end c.args.rounds c.requires.ends c.loop-q.q (inside g n c.loop-q.q c.loop-q-test.true)
-          c.work.result c.loop-q.start (found_of c.search-found.result) c.work.ensures c.loop-q.invariant.0 c.search-found.ensures.value c.length-of.result c.length-of.ensures,
+          c.work.result c.loop-q.start (found_of c.search-found.result) c.work.ensures c.loop-q.invariant.0 c.search-found.ensures.value c.length_of.result c.length_of.ensures,
     )
 
-pub with-candidate-bound-requires : goal.with-candidate-bound-requires
-with-candidate-bound-requires g c =
-    let n = (goal.at.with-candidate-bound-requires g c).After-instances-within-q-end in (
+pub with_candidate-bound-requires : goal.with_candidate-bound-requires
+with_candidate-bound-requires g c =
+    let n = (goal.at.with_candidate-bound-requires g c).After-instances_within-q-end in (
       omega (arith, early g n c.loop-q.q c.loop-q-test.true),
       omega (
         arith,
         c.value.ensures,
         next_within (here g n) (upper_here g n) (own_here g n) c.requires.small.0 c.args.end c.args.rounds c.requires.ends c.loop-q.q (inside g n c.loop-q.q c.loop-q-test.true)
-            c.work.result c.loop-q.start (found_of c.search-found.result) c.work.ensures c.loop-q.invariant.0 c.search-found.ensures.value c.length-of.result c.length-of.ensures,
+            c.work.result c.loop-q.start (found_of c.search-found.result) c.work.ensures c.loop-q.invariant.0 c.search-found.ensures.value c.length_of.result c.length_of.ensures,
       ),
     )
 
 pub loop-q-preserved : goal.loop-q-preserved
 loop-q-preserved g c =
-    let n = (goal.at.loop-q-preserved g c).After-instances-within-q-end in
-    let sent : c.value.result + c.length-of.result ≡ value_of (found_of c.search-found.result) + c.length-of.result = ap (λ v. v + c.length-of.result) c.value.ensures in
+    let n = (goal.at.loop-q-preserved g c).After-instances_within-q-end in
+    let sent : c.value.result + c.length_of.result ≡ value_of (found_of c.search-found.result) + c.length_of.result = ap (λ v. v + c.length_of.result) c.value.ensures in
     let more = judged_more (here g n) (upper_here g n) (own_here g n) c.requires.small.0 c.args.end c.args.rounds c.requires.ends c.loop-q.q (inside g n c.loop-q.q c.loop-q-test.true)
-    c.work.result c.loop-q.start (found_of c.search-found.result) c.work.ensures c.loop-q.invariant.0 c.search-found.ensures.value c.length-of.result c.length-of.ensures
-    c.loop-q.bound c.loop-q.all-rounds c.with-candidate-bound.result c.loop-q.invariant c.requires.small.1 (omega (arith, sent)) in
-    (sent ∙ more.0, more.1, omega (arith, more.2, c.rounds-all-rounds.ensures))
+    c.work.result c.loop-q.start (found_of c.search-found.result) c.work.ensures c.loop-q.invariant.0 c.search-found.ensures.value c.length_of.result c.length_of.ensures
+    c.loop-q.bound c.loop-q.all_rounds c.with_candidate-bound.result c.loop-q.invariant c.requires.small.1 (omega (arith, sent)) in
+    (sent ∙ more.0, more.1, omega (arith, more.2, c.rounds-all_rounds.ensures))
 
 pub returns : goal.returns
 returns g c =
-    let n = (goal.at.returns g c).After-instances-within-q-end in
+    let n = (goal.at.returns g c).After-instances_within-q-end in
     let p = here g n in
     let last : c.loop-q.q ≡ instances p c.args.end = omega (arith, number_is g n) in
     let worst : c.loop-q.bound ≡ bound p (instances p c.args.end) = c.loop-q.invariant.1 ∙ ap (bound p) last in
-    let all : c.loop-q.all-rounds ≡ c.args.rounds + delay_rounds p (instances p c.args.end) = c.loop-q.invariant.2 ∙ ap (λ k. c.args.rounds + delay_rounds p k) last in
+    let all : c.loop-q.all_rounds ≡ c.args.rounds + delay_rounds p (instances p c.args.end) = c.loop-q.invariant.2 ∙ ap (λ k. c.args.rounds + delay_rounds p k) last in
     c.against.ensures ∙ ap₂ (judged c.args.deadline) worst all

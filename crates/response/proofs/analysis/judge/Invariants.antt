@@ -6,4 +6,4 @@ use Rattle.response.proofs.analysis.judge.Given as goal
 
 abbrev pub invariant-loop-q : goal.invariant-loop-q
 invariant-loop-q g l =
-    JudgedUpto (row_place (models g.L.Listed g.S.Source l.above) (model g.S.Source l.source) l.blocking) l.rounds l.q l.start l.bound l.all-rounds
+    JudgedUpto (row_place (models g.L.Listed g.S.Source l.above) (model g.S.Source l.source) l.blocking) l.rounds l.q l.start l.bound l.all_rounds

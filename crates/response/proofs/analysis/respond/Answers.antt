@@ -25,28 +25,28 @@ module _ (g : given.Over) (rows : List g.row.L.Denot) (m : ℕ) (a : Answer Resp
   it_holds = subst (OfResponse (NoRunOutlasts (models g.L.Listed g.S.Source rows) m)) (sym is)
       (answer_holds (models g.L.Listed g.S.Source rows) (models_lawful g.L.Listed g.S.Source g.met.S.Source.lawful rows) (map g.L.Listed.deadline rows) m)
 
-pub returns-in-err-check-place : goal.returns-in-err-check-place
-returns-in-err-check-place g c =
+pub returns-in-err-check_place : goal.returns-in-err-check_place
+returns-in-err-check_place g c =
     let rows = c.args.rows.now in
     let p = err_from_is_err_and c.from-residual.result c.from-residual.ensures.1 in
-    let refusal : answered fault_number outcome_of c.from-residual.result ≡ refused (fault_number c.in-err-check-place.field-0.0) =
+    let refusal : answered fault_number outcome_of c.from-residual.result ≡ refused (fault_number c.in-err-check_place.field-0.0) =
     ap (answered fault_number outcome_of) p.1 ∙ ap (λ f. refused (fault_number f)) p.2 in
     let is : answered fault_number outcome_of c.from-residual.result ≡ response_answer (models g.L.Listed g.S.Source rows) (map g.L.Listed.deadline rows) c.args.place =
     refusal ∙ no_row (models g.L.Listed g.S.Source rows) (map g.L.Listed.deadline rows) c.args.place _
-    (c.in-err-check-place.ensures ∙ ap (λ n. place_answer n c.args.place) (sym (models_length g.L.Listed g.S.Source rows))) in
+    (c.in-err-check_place.ensures ∙ ap (λ n. place_answer n c.args.place) (sym (models_length g.L.Listed g.S.Source rows))) in
     record { answer = is; grounded = is_grounded g rows c.args.place _ is; holds = it_holds g rows c.args.place _ is }
 
-pub returns-in-err-check-rows : goal.returns-in-err-check-rows
-returns-in-err-check-rows g c =
+pub returns-in-err-check_rows : goal.returns-in-err-check_rows
+returns-in-err-check_rows g c =
     let rows = c.args.rows.now in
     let ms = models g.L.Listed g.S.Source rows in
     let deadlines = map g.L.Listed.deadline rows in
-    let inside = placed (length rows) c.args.place c.in-ok-check-place.ensures in
-    let p = err_from_is_err_and c.from-residual-in-err-check-rows.result c.from-residual-in-err-check-rows.ensures.1 in
-    let refusal : answered fault_number outcome_of c.from-residual-in-err-check-rows.result ≡ refused (fault_number c.in-err-check-rows.field-0.0) =
+    let inside = placed (length rows) c.args.place c.in-ok-check_place.ensures in
+    let p = err_from_is_err_and c.from-residual-in-err-check_rows.result c.from-residual-in-err-check_rows.ensures.1 in
+    let refusal : answered fault_number outcome_of c.from-residual-in-err-check_rows.result ≡ refused (fault_number c.in-err-check_rows.field-0.0) =
     ap (answered fault_number outcome_of) p.1 ∙ ap (λ f. refused (fault_number f)) p.2 in
-    let is : answered fault_number outcome_of c.from-residual-in-err-check-rows.result ≡ response_answer ms deadlines c.args.place =
-    refusal ∙ ap (with_values (response (place ms c.args.place) (get_or deadlines c.args.place 0))) c.in-err-check-rows.ensures
+    let is : answered fault_number outcome_of c.from-residual-in-err-check_rows.result ≡ response_answer ms deadlines c.args.place =
+    refusal ∙ ap (with_values (response (place ms c.args.place) (get_or deadlines c.args.place 0))) c.in-err-check_rows.ensures
     ∙ sym (a_row ms deadlines c.args.place (omega (arith, inside, models_length g.L.Listed g.S.Source rows))) in
     record { answer = is; grounded = is_grounded g rows c.args.place _ is; holds = it_holds g rows c.args.place _ is }
 
@@ -56,42 +56,42 @@ module _ (g : given.Over) (w : After-work g) where
   upper_rows = models g.L.Listed g.S.Source (take (w.args.place - 0) w.args.rows.now)
 
   abbrev at_row : Place
-  at_row = row_place upper_rows (model g.S.Source (g.L.Listed.source w.index-rows-place.result)) w.blocking-below-blocking.result
+  at_row = row_place upper_rows (model g.S.Source (g.L.Listed.source w.index-rows-place.result)) w.blocking_below-blocking.result
 
   inside : w.args.place < length w.args.rows.now
-  inside = placed (length w.args.rows.now) w.args.place w.in-Continue-check-place.ensures
+  inside = placed (length w.args.rows.now) w.args.place w.in-Continue-check_place.ensures
 
   first_is : w.work.result ≡ g.S.Source.work (g.L.Listed.source w.index-rows-place.result) 1
   first_is = w.work.ensures ∙ ap (λ x. g.S.Source.work x 1) w.source.ensures
 
-  few : w.blocking-below-blocking.result ≤ 160
+  few : w.blocking_below-blocking.result ≤ 160
   few =
       few_blocking g.L.Listed g.S.Source g.met.S.Source.lawful w.args.rows.now w.args.place inside w.index-rows-place.result w.index-rows-place.is
-      w.blocking-below-blocking.result w.work.result w.blocking-below-blocking.ensures first_is w.in-Continue-check-rows.ensures
+      w.blocking_below-blocking.result w.work.result w.blocking_below-blocking.ensures first_is w.in-Continue-check_rows.ensures
 
   small : SmallJitters upper_rows × (g.S.Source.jitter (g.L.Listed.source w.index-rows-place.result) ≤ horizon)
   small = (
     above_small g.L.Listed g.S.Source g.met.S.Source.lawful w.args.rows.now w.args.place inside w.index-rows-place.result w.index-rows-place.is
-        w.blocking-below-blocking.result w.work.result w.blocking-below-blocking.ensures first_is w.in-Continue-check-rows.ensures,
+        w.blocking_below-blocking.result w.work.result w.blocking_below-blocking.ensures first_is w.in-Continue-check_rows.ensures,
     own_small g.L.Listed g.S.Source g.met.S.Source.lawful w.args.rows.now w.args.place inside w.index-rows-place.result w.index-rows-place.is
-        w.blocking-below-blocking.result w.work.result w.blocking-below-blocking.ensures first_is w.in-Continue-check-rows.ensures,
+        w.blocking_below-blocking.result w.work.result w.blocking_below-blocking.ensures first_is w.in-Continue-check_rows.ensures,
   )
 
   -- The search that is made is the busy search of the row.
-  searched_so : (o : Found) → o ≡ fixed_point (busy_answer upper_rows at_row.own_val at_row.blocking) (w.blocking-below-blocking.result + w.work.result) → busy_search at_row ≡ o
+  searched_so : (o : Found) → o ≡ fixed_point (busy_answer upper_rows at_row.own_val at_row.blocking) (w.blocking_below-blocking.result + w.work.result) → busy_search at_row ≡ o
   searched_so o is =
       sym (is ∙ found_search g.L.Listed g.S.Source g.met.S.Source.lawful w.args.rows.now w.args.place inside w.index-rows-place.result w.index-rows-place.is
-      w.blocking-below-blocking.result w.work.result w.blocking-below-blocking.ensures first_is w.in-Continue-check-rows.ensures)
+      w.blocking_below-blocking.result w.work.result w.blocking_below-blocking.ensures first_is w.in-Continue-check_rows.ensures)
 
   -- The response of the row is the answer.
   answer_is : (o : Response) → o ≡ response at_row (g.L.Listed.deadline w.index-rows-place.result) →
       made o ≡ response_answer (models g.L.Listed g.S.Source w.args.rows.now) (map g.L.Listed.deadline w.args.rows.now) w.args.place
   answer_is =
       answered_with g.L.Listed g.S.Source g.met.S.Source.lawful w.args.rows.now w.args.place inside w.index-rows-place.result w.index-rows-place.is
-      w.blocking-below-blocking.result w.work.result w.blocking-below-blocking.ensures first_is w.in-Continue-check-rows.ensures
+      w.blocking_below-blocking.result w.work.result w.blocking_below-blocking.ensures first_is w.in-Continue-check_rows.ensures
 
-pub overflow-add-first : goal.overflow-add-first
-overflow-add-first g c = omega (arith, few g c, (g.met.S.Source.lawful c.source.result.now).work_at_most 1)
+pub overflow_add-first : goal.overflow_add-first
+overflow_add-first g c = omega (arith, few g c, (g.met.S.Source.lawful c.source.result.now).work_at_most 1)
 
 pub judge-requires : goal.judge-requires
 judge-requires g c =
@@ -99,7 +99,7 @@ judge-requires g c =
     let source_is = sym c.source-in-Ended.ensures in
     let ends = searched_so g w _ c.in-Ended.ensures.value in
     record {
-      ends = subst (λ x. busy_search (row_place (upper_rows g w) (model g.S.Source x) c.blocking-below-blocking.result) ≡ ended c.in-Ended.value c.in-Ended.rounds) source_is ends;
+      ends = subst (λ x. busy_search (row_place (upper_rows g w) (model g.S.Source x) c.blocking_below-blocking.result) ≡ ended c.in-Ended.value c.in-Ended.rounds) source_is ends;
       small = ((small g w).0, subst (λ x. g.S.Source.jitter x ≤ horizon) source_is (small g w).1);
     }
 
@@ -110,7 +110,7 @@ returns-in-Ended g c =
     let ends = searched_so g w _ c.in-Ended.ensures.value in
     let judged : outcome_of c.judge.result ≡ response (at_row g w) (g.L.Listed.deadline c.index-rows-place.result) =
     c.judge.ensures
-    ∙ ap₂ (λ x d. judged_at (row_place (upper_rows g w) (model g.S.Source x) c.blocking-below-blocking.result) d c.in-Ended.value c.in-Ended.rounds) c.source-in-Ended.ensures c.deadline.ensures
+    ∙ ap₂ (λ x d. judged_at (row_place (upper_rows g w) (model g.S.Source x) c.blocking_below-blocking.result) d c.in-Ended.value c.in-Ended.rounds) c.source-in-Ended.ensures c.deadline.ensures
     ∙ sym (response_ended (at_row g w) (g.L.Listed.deadline c.index-rows-place.result) c.in-Ended.value c.in-Ended.rounds ends) in
     let is = answer_is g w _ judged in
     record { answer = is; grounded = is_grounded g rows c.args.place _ is; holds = it_holds g rows c.args.place _ is }

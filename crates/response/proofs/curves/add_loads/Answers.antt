@@ -5,8 +5,8 @@ use Rattle.response.specs.Curves.{models, load_answer, loads_answer}
 use Rattle.response.proofs.AnswerLaws.{load_small}
 use Rattle.response.proofs.curves.add_loads.Goals as goal
 
-pub overflow-add-sum : goal.overflow-add-sum
-overflow-add-sum g c =
+pub overflow_add-sum : goal.overflow_add-sum
+overflow_add-sum g c =
     let source = c.source.result.now in
     omega (arith, c.load-sum.ensures, load_small (model g.S.Source source) (g.met.S.Source.lawful source) c.args.t)
 

@@ -45,8 +45,8 @@ loop-value-smaller g c =
     fewer (g.C.Curve.curve c.args.on.now) c.value-answer.ensures.rising c.args.start c.loop-value.value c.loop-value.rounds c.value-answer.result
     c.loop-value.invariant c.value-answer.ensures.answer c.in-Onward.ensures
 
-pub overflow-add-rounds : goal.overflow-add-rounds
-overflow-add-rounds g c =
+pub overflow_add-rounds : goal.overflow_add-rounds
+overflow_add-rounds g c =
     let f = g.C.Curve.curve c.args.on.now in
     let falls_not = c.value-answer.ensures.rising in
     let left : rounds_of (fixed_point f c.args.start) ≡ c.loop-value.rounds + rounds_of (fixed_point f c.loop-value.value) =

@@ -5,8 +5,8 @@ use Rattle.sources.specs.RangesLemmas.{largest_more}
 use Rattle.sources.specs.CyclesLemmas.{run_between}
 use Rattle.sources.proofs.cycle.largest_run.Goals as goal
 
-pub overflow-sub-sums : goal.overflow-sub-sums
-overflow-sub-sums c =
+pub overflow_sub-sums : goal.overflow_sub-sums
+overflow_sub-sums c =
     let p = c.loop-p.p in
     let k = c.args.k in
     omega (arith, c.requires.summed p (omega arith), c.requires.summed (p + k) (omega arith), run_between c.args.cycle.now p k)

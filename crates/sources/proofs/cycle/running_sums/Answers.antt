@@ -4,8 +4,8 @@ use Rattle.sources.specs.CyclesLemmas.{run_small, run_more}
 use Rattle.sources.proofs.Tables.{filled_more}
 use Rattle.sources.proofs.cycle.running_sums.Goals as goal
 
-pub overflow-add-sums : goal.overflow-add-sums
-overflow-add-sums c =
+pub overflow_add-sums : goal.overflow_add-sums
+overflow_add-sums c =
     omega (arith, c.loop-i.invariant.1 c.loop-i.i (omega arith), run_more c.args.cycle.now c.loop-i.i, run_small c.args.cycle.now c.requires.frames 0 (c.loop-i.i + 1))
 
 pub loop-i-preserved : goal.loop-i-preserved

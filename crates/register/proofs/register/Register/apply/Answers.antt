@@ -53,7 +53,7 @@ pub returns-in-LookUp : goal.returns-in-LookUp
 returns-in-LookUp g c =
     let memory = memory_of g c.args.self.now.slots.now c.args.self.now.used in
     record {
-      answer = c.shown.ensures ∙ reply_shown c.look-up.result (standing memory) (look_up_memory g.S.Entry g.S.Source c.in-LookUp.identifier memory) c.look-up.ensures ∙ ap (answer_to g memory) (sym c.in-LookUp.is);
+      answer = c.shown.ensures ∙ reply_shown c.look_up.result (standing memory) (look_up_memory g.S.Entry g.S.Source c.in-LookUp.identifier memory) c.look_up.ensures ∙ ap (answer_to g memory) (sym c.in-LookUp.is);
       memory = ap (memory_step g.S.Entry g.S.Source memory) (sym c.in-LookUp.is);
       same = refl;
     }

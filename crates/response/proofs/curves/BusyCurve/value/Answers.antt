@@ -9,7 +9,7 @@ returns g c =
     let s = c.args.self.now in
     let above = models g.L.Listed g.S.Source s.above.now in
     record {
-      answer = c.busy-value.ensures ∙ ap (λ o. min (busy_answer above (model g.S.Source o) s.blocking c.args.x) 1000001) c.source.ensures;
+      answer = c.busy_value.ensures ∙ ap (λ o. min (busy_answer above (model g.S.Source o) s.blocking c.args.x) 1000001) c.source.ensures;
       rising = busy_answer_rises above (models_lawful g.L.Listed g.S.Source g.met.S.Source.lawful s.above.now)
           (model g.S.Source (g.L.Listed.source s.own.now)) (g.met.S.Source.lawful (g.L.Listed.source s.own.now)) s.blocking;
     }

@@ -6,6 +6,6 @@ pub returns : goal.returns
 returns g c =
     let s = c.args.self.now in
     record {
-      answer = c.delay-value.ensures;
+      answer = c.delay_value.ensures;
       rising = delay_answer_rises (models g.L.Listed g.S.Source s.above.now) (models_lawful g.L.Listed g.S.Source g.met.S.Source.lawful s.above.now) s.held;
     }

@@ -9,14 +9,14 @@ bursts_fit : (size spacing period : ℕ) → BurstNumbers size spacing period �
 bursts_fit size spacing period numbers y =
     omega (arith, mul-le-mul_left (y / period) (room size spacing period numbers), div-mul-le_self y period)
 
-pub overflow-mul-result : goal.overflow-mul-result
-overflow-mul-result g c = let s = c.args.self.now in omega (arith, bursts_fit s.size s.spacing s.period s.numbers (c.min-last.result - 1))
+pub overflow_mul-result : goal.overflow_mul-result
+overflow_mul-result g c = let s = c.args.self.now in omega (arith, bursts_fit s.size s.spacing s.period s.numbers (c.min-last.result - 1))
 
-pub overflow-add-result : goal.overflow-add-result
-overflow-add-result g c = let s = c.args.self.now in omega (arith, room s.size s.spacing s.period s.numbers, bursts_fit s.size s.spacing s.period s.numbers (c.min-last.result - 1))
+pub overflow_add-result : goal.overflow_add-result
+overflow_add-result g c = let s = c.args.self.now in omega (arith, room s.size s.spacing s.period s.numbers, bursts_fit s.size s.spacing s.period s.numbers (c.min-last.result - 1))
 
-pub overflow-add-result-2 : goal.overflow-add-result-2
-overflow-add-result-2 g c = let s = c.args.self.now in omega (arith, room s.size s.spacing s.period s.numbers, bursts_fit s.size s.spacing s.period s.numbers (c.min-last.result - 1))
+pub overflow_add-result-2 : goal.overflow_add-result-2
+overflow_add-result-2 g c = let s = c.args.self.now in omega (arith, room s.size s.spacing s.period s.numbers, bursts_fit s.size s.spacing s.period s.numbers (c.min-last.result - 1))
 
 pub returns : goal.returns
 returns g c =

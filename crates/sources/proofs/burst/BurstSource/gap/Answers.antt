@@ -3,8 +3,8 @@ use native.Mathlib.Nat.{mod-le}
 use Rattle.std.proofs.lemmas.Nat.{mul-le}
 use Rattle.sources.proofs.burst.BurstSource.gap.Goals as goal
 
-pub overflow-add-bursts : goal.overflow-add-bursts
-overflow-add-bursts g c =
+pub overflow_add-bursts : goal.overflow_add-bursts
+overflow_add-bursts g c =
     let s = c.args.self.now in
     let q = c.min-q.result in
     omega (

@@ -16,13 +16,13 @@ by_table c k =
     subst (λ n. cycle_work (lengths_of c) k ≡ k / n * cycle_work (lengths_of c) n + cycle_work (lengths_of c) (k % n)) size (cycle_work_closed (lengths_of c) c.frames k) in
     ap₂ (λ x y. k / c.size * x + y) round rest ∙ sym closed
 
-pub overflow-mul-result : goal.overflow-mul-result
-overflow-mul-result c =
+pub overflow_mul-result : goal.overflow_mul-result
+overflow_mul-result c =
     let s = c.args.self.now in
     omega (arith, by_table s c.args.k, cycle_work_small (lengths_of s) s.frames c.args.k)
 
-pub overflow-add-result : goal.overflow-add-result
-overflow-add-result c =
+pub overflow_add-result : goal.overflow_add-result
+overflow_add-result c =
     let s = c.args.self.now in
     omega (arith, by_table s c.args.k, cycle_work_small (lengths_of s) s.frames c.args.k)
 

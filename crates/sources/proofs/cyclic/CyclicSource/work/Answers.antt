@@ -5,4 +5,4 @@ use Rattle.sources.proofs.cyclic.CyclicSource.work.Goals as goal
 pub returns : goal.returns
 returns g c =
     let cycle = c.args.self.now.cycle in
-    record { value = c.most-of.ensures; rounds = cycle_work_closed (lengths_of cycle) cycle.frames }
+    record { value = c.most_of.ensures; rounds = cycle_work_closed (lengths_of cycle) cycle.frames }
