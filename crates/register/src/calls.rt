@@ -32,10 +32,10 @@ struct Located {
 // Looks for an identifier among the rows.
 fn locate<S: Source>(slots: &[Slot<S>], used: usize, identifier: u32) -> Located
     ensures count { result.count ≡ length (take used slots.now) }
-    ensures place { result.place ≡ place_in S.Entry S.Source slot_kind identifier (take used slots.now) }
-    ensures taken { result.taken ≡ is_in S.Entry S.Source slot_kind identifier (take used slots.now) }
+    ensures place { result.place ≡ place_in S.Entry S.Source.own slot_kind identifier (take used slots.now) }
+    ensures taken { result.taken ≡ is_in S.Entry S.Source.own slot_kind identifier (take used slots.now) }
     ensures within { (result.place ≤ result.count) × ((result.count ≤ length slots.now) × ((result.taken ≡ true → result.place < result.count))) }
-    ensures located { WhereIs S.Entry S.Source (record { places = slots.now; used = used }) identifier result.count result.place result.taken }
+    ensures located { WhereIs S.Entry S.Source.own (record { places = slots.now; used = used }) identifier result.count result.place result.taken }
 {
     let count = used.min(slots.len());
     let rows = &slots[0..count];
@@ -74,10 +74,10 @@ pub(crate) fn enter<S: Source + Copy>(
     used: usize,
     row: Row<S>,
 ) -> Result<usize, RegisterFault>
-    ensures answer { answered fault_number (λ n. n) result ≡ count_of (enter_memory S.Entry S.Source row (record { places = slots.old; used = used })) }
-    ensures memory { slots.new ≡ (stored (record { places = slots.old; used = used }) (enter_memory S.Entry S.Source row (record { places = slots.old; used = used }))).places }
-    ensures accepts { answered fault_number (λ _. tt {0}) result ≡ accepted (enter_memory S.Entry S.Source row (record { places = slots.old; used = used })) }
-    ensures whole { ◌≡◌ {A = Memory S} (record { places = slots.new; used = used_after used result }) (stored (record { places = slots.old; used = used }) (enter_memory S.Entry S.Source row (record { places = slots.old; used = used }))) }
+    ensures answer { answered fault_number (λ n. n) result ≡ count_of (enter_memory S.Entry S.Source.own row (record { places = slots.old; used = used })) }
+    ensures memory { slots.new ≡ (stored (record { places = slots.old; used = used }) (enter_memory S.Entry S.Source.own row (record { places = slots.old; used = used }))).places }
+    ensures accepts { answered fault_number (λ _. tt {0}) result ≡ accepted (enter_memory S.Entry S.Source.own row (record { places = slots.old; used = used })) }
+    ensures whole { ◌≡◌ {A = Memory S} (record { places = slots.new; used = used_after used result }) (stored (record { places = slots.old; used = used }) (enter_memory S.Entry S.Source.own row (record { places = slots.old; used = used }))) }
 {
     check_row(&row)?;
     let at = locate(slots, used, row.source.identifier());
@@ -97,10 +97,10 @@ pub(crate) fn amend<S: Source + Copy>(
     used: usize,
     row: Row<S>,
 ) -> Result<usize, RegisterFault>
-    ensures answer { answered fault_number (λ n. n) result ≡ count_of (amend_memory S.Entry S.Source row (record { places = slots.old; used = used })) }
-    ensures memory { slots.new ≡ (stored (record { places = slots.old; used = used }) (amend_memory S.Entry S.Source row (record { places = slots.old; used = used }))).places }
-    ensures accepts { answered fault_number (λ _. tt {0}) result ≡ accepted (amend_memory S.Entry S.Source row (record { places = slots.old; used = used })) }
-    ensures whole { ◌≡◌ {A = Memory S} (record { places = slots.new; used = used_after used result }) (stored (record { places = slots.old; used = used }) (amend_memory S.Entry S.Source row (record { places = slots.old; used = used }))) }
+    ensures answer { answered fault_number (λ n. n) result ≡ count_of (amend_memory S.Entry S.Source.own row (record { places = slots.old; used = used })) }
+    ensures memory { slots.new ≡ (stored (record { places = slots.old; used = used }) (amend_memory S.Entry S.Source.own row (record { places = slots.old; used = used }))).places }
+    ensures accepts { answered fault_number (λ _. tt {0}) result ≡ accepted (amend_memory S.Entry S.Source.own row (record { places = slots.old; used = used })) }
+    ensures whole { ◌≡◌ {A = Memory S} (record { places = slots.new; used = used_after used result }) (stored (record { places = slots.old; used = used }) (amend_memory S.Entry S.Source.own row (record { places = slots.old; used = used }))) }
 {
     check_row(&row)?;
     let at = locate(slots, used, row.source.identifier());
@@ -118,10 +118,10 @@ pub(crate) fn withdraw<S: Source + Copy>(
     used: usize,
     identifier: u32,
 ) -> Result<usize, RegisterFault>
-    ensures answer { answered fault_number (λ n. n) result ≡ count_of (withdraw_memory S.Entry S.Source identifier (record { places = slots.old; used = used })) }
-    ensures memory { slots.new ≡ (stored (record { places = slots.old; used = used }) (withdraw_memory S.Entry S.Source identifier (record { places = slots.old; used = used }))).places }
-    ensures accepts { answered fault_number (λ _. tt {0}) result ≡ accepted (withdraw_memory S.Entry S.Source identifier (record { places = slots.old; used = used })) }
-    ensures whole { ◌≡◌ {A = Memory S} (record { places = slots.new; used = used_after used result }) (stored (record { places = slots.old; used = used }) (withdraw_memory S.Entry S.Source identifier (record { places = slots.old; used = used }))) }
+    ensures answer { answered fault_number (λ n. n) result ≡ count_of (withdraw_memory S.Entry S.Source.own identifier (record { places = slots.old; used = used })) }
+    ensures memory { slots.new ≡ (stored (record { places = slots.old; used = used }) (withdraw_memory S.Entry S.Source.own identifier (record { places = slots.old; used = used }))).places }
+    ensures accepts { answered fault_number (λ _. tt {0}) result ≡ accepted (withdraw_memory S.Entry S.Source.own identifier (record { places = slots.old; used = used })) }
+    ensures whole { ◌≡◌ {A = Memory S} (record { places = slots.new; used = used_after used result }) (stored (record { places = slots.old; used = used }) (withdraw_memory S.Entry S.Source.own identifier (record { places = slots.old; used = used }))) }
 {
     let at = locate(slots, used, identifier);
     if !at.taken {
@@ -138,7 +138,7 @@ fn analyse<S: Source>(
     place: usize,
 ) -> Result<Outcome, ResponseFault>
     requires { count ≤ length slots.now }
-    ensures { answered response_number outcome_of result ≡ response_answer (models S.Entry S.Source slot_kind (take count slots.now)) (map (λ s. s.row.deadline) (take count slots.now)) place }
+    ensures { answered response_number outcome_of result ≡ response_answer (models S.Entry S.Source.own slot_kind (take count slots.now)) (map (λ s. s.row.deadline) (take count slots.now)) place }
 {
     respond(&slots[0..count], place)
 }
@@ -149,10 +149,10 @@ pub(crate) fn settle<S: Source + Copy>(
     used: usize,
     identifier: u32,
 ) -> Result<usize, RegisterFault>
-    ensures answer { answered fault_number (λ n. n) result ≡ count_of (settle_memory S.Entry S.Source identifier (record { places = slots.old; used = used })) }
-    ensures memory { slots.new ≡ (stored (record { places = slots.old; used = used }) (settle_memory S.Entry S.Source identifier (record { places = slots.old; used = used }))).places }
-    ensures accepts { answered fault_number (λ _. tt {0}) result ≡ accepted (settle_memory S.Entry S.Source identifier (record { places = slots.old; used = used })) }
-    ensures whole { ◌≡◌ {A = Memory S} (record { places = slots.new; used = used_after used result }) (stored (record { places = slots.old; used = used }) (settle_memory S.Entry S.Source identifier (record { places = slots.old; used = used }))) }
+    ensures answer { answered fault_number (λ n. n) result ≡ count_of (settle_memory S.Entry S.Source.own identifier (record { places = slots.old; used = used })) }
+    ensures memory { slots.new ≡ (stored (record { places = slots.old; used = used }) (settle_memory S.Entry S.Source.own identifier (record { places = slots.old; used = used }))).places }
+    ensures accepts { answered fault_number (λ _. tt {0}) result ≡ accepted (settle_memory S.Entry S.Source.own identifier (record { places = slots.old; used = used })) }
+    ensures whole { ◌≡◌ {A = Memory S} (record { places = slots.new; used = used_after used result }) (stored (record { places = slots.old; used = used }) (settle_memory S.Entry S.Source.own identifier (record { places = slots.old; used = used }))) }
 {
     let at = locate(slots, used, identifier);
     if !at.taken {
@@ -170,7 +170,7 @@ pub(crate) fn look_up<S: Source>(
     used: usize,
     identifier: u32,
 ) -> Result<Outcome, RegisterFault>
-    ensures { answered fault_number outcome_of result ≡ look_up_memory S.Entry S.Source identifier (record { places = slots.now; used = used }) }
+    ensures { answered fault_number outcome_of result ≡ look_up_memory S.Entry S.Source.own identifier (record { places = slots.now; used = used }) }
 {
     let at = locate(slots, used, identifier);
     if !at.taken {

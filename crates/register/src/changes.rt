@@ -16,7 +16,7 @@ pub(crate) fn put_in<S: Source + Copy>(
     slot: Slot<S>,
 )
     requires { (place ≤ end) × (end < length slots.old) }
-    ensures { slots.new ≡ unsettled_memory S.Entry S.Source place (end + 1) (longest_from S.Entry S.Source place end slots.old) (inserted place end slot slots.old) }
+    ensures { slots.new ≡ unsettled_memory S.Entry S.Source.own place (end + 1) (longest_from S.Entry S.Source.own place end slots.old) (inserted place end slot slots.old) }
 {
     let before = longest_between(slots, place, end);
     insert(slots, place, end, slot);
@@ -31,7 +31,7 @@ pub(crate) fn replace<S: Source + Copy>(
     slot: Slot<S>,
 )
     requires { (place < end) × (end ≤ length slots.old) }
-    ensures { slots.new ≡ unsettled_memory S.Entry S.Source place end (longest_from S.Entry S.Source place end slots.old) (slice_set slots.old place slot) }
+    ensures { slots.new ≡ unsettled_memory S.Entry S.Source.own place end (longest_from S.Entry S.Source.own place end slots.old) (slice_set slots.old place slot) }
 {
     let before = longest_between(slots, place, end);
     put(slots, place, slot);
@@ -41,7 +41,7 @@ pub(crate) fn replace<S: Source + Copy>(
 // Takes out the row at a place of the rows up to the end.
 pub(crate) fn take_out<S: Source + Copy>(slots: &mut [Slot<S>], place: usize, end: usize)
     requires { (place < end) × (end ≤ length slots.old) }
-    ensures { slots.new ≡ unsettled_memory S.Entry S.Source place (end - 1) (longest_from S.Entry S.Source place end slots.old) (removed place end slots.old) }
+    ensures { slots.new ≡ unsettled_memory S.Entry S.Source.own place (end - 1) (longest_from S.Entry S.Source.own place end slots.old) (removed place end slots.old) }
 {
     let before = longest_between(slots, place, end);
     remove(slots, place, end);

@@ -33,8 +33,8 @@ fn shown(res: Result<Outcome, RegisterFault>) -> Answer
 impl<'a, S: Source + Copy> Register<'a, S> {
     // Performs one use.
     pub fn apply(&mut self, action: Use<S>) -> Answer
-        ensures answer { reply_of result ≡ (register_step S.Entry S.Source (length self.old.slots.now) (take self.old.used self.old.slots.now) action).reply }
-        ensures memory { ◌≡◌ {A = Memory S} (record { places = self.new.slots.now; used = self.new.used }) (memory_step S.Entry S.Source (record { places = self.old.slots.now; used = self.old.used }) action) }
+        ensures answer { reply_of result ≡ (register_step S.Entry S.Source.own (length self.old.slots.now) (take self.old.used self.old.slots.now) action).reply }
+        ensures memory { ◌≡◌ {A = Memory S} (record { places = self.new.slots.now; used = self.new.used }) (memory_step S.Entry S.Source.own (record { places = self.old.slots.now; used = self.old.used }) action) }
         ensures same { self.new.slots.ghost_name ≡ self.old.slots.ghost_name }
     {
         match action {
@@ -62,8 +62,8 @@ pub fn perform<S: Source + Copy>(
 ) -> usize
     ensures count { result ≡ min (length uses.now) (length answers.old) }
     ensures rest { drop result answers.new ≡ drop result answers.old }
-    ensures memory { slots.new ≡ (memory_after S.Entry S.Source (opened slots.old) (take result uses.now)).places }
-    ensures promise { Promise S.Entry S.Source (length slots.old) (take result uses.now) (map reply_of (take result answers.new)) (standing (memory_after S.Entry S.Source (opened slots.old) (take result uses.now))) }
+    ensures memory { slots.new ≡ (memory_after S.Entry S.Source.own (opened slots.old) (take result uses.now)).places }
+    ensures promise { Promise S.Entry S.Source.own (length slots.old) (take result uses.now) (map reply_of (take result answers.new)) (standing (memory_after S.Entry S.Source.own (opened slots.old) (take result uses.now))) }
 {
     let mut register = Register::open(slots);
     let count = performed(uses.len(), answers.len());

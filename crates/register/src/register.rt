@@ -39,8 +39,8 @@ impl<'a, S: Source + Copy> Register<'a, S> {
 
     // Enters a row. Refused with 21, 22, 23, 24.
     pub fn enter(&mut self, row: Row<S>) -> Result<(), RegisterFault>
-        ensures answer { answered fault_number (λ u. u) result ≡ accepted (enter_memory S.Entry S.Source row (record { places = self.old.slots.now; used = self.old.used })) }
-        ensures memory { ◌≡◌ {A = Memory S} (record { places = self.new.slots.now; used = self.new.used }) (stored (record { places = self.old.slots.now; used = self.old.used }) (enter_memory S.Entry S.Source row (record { places = self.old.slots.now; used = self.old.used }))) }
+        ensures answer { answered fault_number (λ u. u) result ≡ accepted (enter_memory S.Entry S.Source.own row (record { places = self.old.slots.now; used = self.old.used })) }
+        ensures memory { ◌≡◌ {A = Memory S} (record { places = self.new.slots.now; used = self.new.used }) (stored (record { places = self.old.slots.now; used = self.old.used }) (enter_memory S.Entry S.Source.own row (record { places = self.old.slots.now; used = self.old.used }))) }
         ensures same { self.new.slots.ghost_name ≡ self.old.slots.ghost_name }
     {
         let used = self.used;
@@ -50,8 +50,8 @@ impl<'a, S: Source + Copy> Register<'a, S> {
 
     // Replaces the row with the source's identifier. Refused with 21, 22, 25.
     pub fn amend(&mut self, row: Row<S>) -> Result<(), RegisterFault>
-        ensures answer { answered fault_number (λ u. u) result ≡ accepted (amend_memory S.Entry S.Source row (record { places = self.old.slots.now; used = self.old.used })) }
-        ensures memory { ◌≡◌ {A = Memory S} (record { places = self.new.slots.now; used = self.new.used }) (stored (record { places = self.old.slots.now; used = self.old.used }) (amend_memory S.Entry S.Source row (record { places = self.old.slots.now; used = self.old.used }))) }
+        ensures answer { answered fault_number (λ u. u) result ≡ accepted (amend_memory S.Entry S.Source.own row (record { places = self.old.slots.now; used = self.old.used })) }
+        ensures memory { ◌≡◌ {A = Memory S} (record { places = self.new.slots.now; used = self.new.used }) (stored (record { places = self.old.slots.now; used = self.old.used }) (amend_memory S.Entry S.Source.own row (record { places = self.old.slots.now; used = self.old.used }))) }
         ensures same { self.new.slots.ghost_name ≡ self.old.slots.ghost_name }
     {
         let used = self.used;
@@ -61,8 +61,8 @@ impl<'a, S: Source + Copy> Register<'a, S> {
 
     // Removes a row; lower rows move up one place. Refused with 25.
     pub fn withdraw(&mut self, identifier: u32) -> Result<(), RegisterFault>
-        ensures answer { answered fault_number (λ u. u) result ≡ accepted (withdraw_memory S.Entry S.Source identifier (record { places = self.old.slots.now; used = self.old.used })) }
-        ensures memory { ◌≡◌ {A = Memory S} (record { places = self.new.slots.now; used = self.new.used }) (stored (record { places = self.old.slots.now; used = self.old.used }) (withdraw_memory S.Entry S.Source identifier (record { places = self.old.slots.now; used = self.old.used }))) }
+        ensures answer { answered fault_number (λ u. u) result ≡ accepted (withdraw_memory S.Entry S.Source.own identifier (record { places = self.old.slots.now; used = self.old.used })) }
+        ensures memory { ◌≡◌ {A = Memory S} (record { places = self.new.slots.now; used = self.new.used }) (stored (record { places = self.old.slots.now; used = self.old.used }) (withdraw_memory S.Entry S.Source.own identifier (record { places = self.old.slots.now; used = self.old.used }))) }
         ensures same { self.new.slots.ghost_name ≡ self.old.slots.ghost_name }
     {
         let used = self.used;
@@ -72,8 +72,8 @@ impl<'a, S: Source + Copy> Register<'a, S> {
 
     // Works out and stores verdict, bound and round count of a row. Refused with 25.
     pub fn settle(&mut self, identifier: u32) -> Result<(), RegisterFault>
-        ensures answer { answered fault_number (λ u. u) result ≡ accepted (settle_memory S.Entry S.Source identifier (record { places = self.old.slots.now; used = self.old.used })) }
-        ensures memory { ◌≡◌ {A = Memory S} (record { places = self.new.slots.now; used = self.new.used }) (stored (record { places = self.old.slots.now; used = self.old.used }) (settle_memory S.Entry S.Source identifier (record { places = self.old.slots.now; used = self.old.used }))) }
+        ensures answer { answered fault_number (λ u. u) result ≡ accepted (settle_memory S.Entry S.Source.own identifier (record { places = self.old.slots.now; used = self.old.used })) }
+        ensures memory { ◌≡◌ {A = Memory S} (record { places = self.new.slots.now; used = self.new.used }) (stored (record { places = self.old.slots.now; used = self.old.used }) (settle_memory S.Entry S.Source.own identifier (record { places = self.old.slots.now; used = self.old.used }))) }
         ensures same { self.new.slots.ghost_name ≡ self.old.slots.ghost_name }
     {
         let used = self.used;
@@ -83,7 +83,7 @@ impl<'a, S: Source + Copy> Register<'a, S> {
 
     // The verdict, bound and round count of a row. Refused with 25, 26.
     pub fn look_up(&self, identifier: u32) -> Result<Outcome, RegisterFault>
-        ensures { answered fault_number outcome_of result ≡ look_up_memory S.Entry S.Source identifier (record { places = self.now.slots.now; used = self.now.used }) }
+        ensures { answered fault_number outcome_of result ≡ look_up_memory S.Entry S.Source.own identifier (record { places = self.now.slots.now; used = self.now.used }) }
     {
         calls::look_up(self.slots, self.used, identifier)
     }

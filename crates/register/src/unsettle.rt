@@ -29,7 +29,7 @@ pub(crate) fn unsettle_above_place<S: Source + Copy>(
     after: u32,
 )
     requires { place ≤ length slots.old }
-    ensures { slots.new ≡ unsettle_above (frame S.Entry S.Source slot_kind) (with_outcome Nothing) (take place slots.old) before after ++ drop place slots.old }
+    ensures { slots.new ≡ unsettle_above (frame S.Entry S.Source.own slot_kind) (with_outcome Nothing) (take place slots.old) before after ++ drop place slots.old }
 {
     let mut below: u32 = 0;
     for i in (0..place).rev() {
@@ -46,7 +46,7 @@ pub(crate) fn unsettle_above_place<S: Source + Copy>(
 // The longest frame of the rows from a place up to the end.
 pub(crate) fn longest_between<S: Source>(slots: &[Slot<S>], place: usize, end: usize) -> u32
     requires { (place ≤ end) × (end ≤ length slots.now) }
-    ensures { result ≡ longest (frame S.Entry S.Source slot_kind) (take (end - place) (drop place slots.now)) }
+    ensures { result ≡ longest (frame S.Entry S.Source.own slot_kind) (take (end - place) (drop place slots.now)) }
 {
     longest_frame(&slots[place..end])
 }
@@ -60,7 +60,7 @@ pub(crate) fn unsettle<S: Source + Copy>(
     before: u32,
 )
     requires { (place ≤ end) × (end ≤ length slots.old) }
-    ensures { slots.new ≡ unsettled_memory S.Entry S.Source place end before slots.old }
+    ensures { slots.new ≡ unsettled_memory S.Entry S.Source.own place end before slots.old }
 {
     let after = longest_between(slots, place, end);
     unsettle_above_place(slots, place, before, after);

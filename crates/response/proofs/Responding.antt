@@ -11,7 +11,7 @@ use Rattle.response.specs.Searches.{Found, ended, failed, horizon, fixed_point, 
 use Rattle.response.specs.Bounds.{AllLawful, Place, row_place, load, busy, busy_search, instances, delay, delay_search, Response, ok, late, none, judged, judged_at, response, row, place, longest_of, bound}
 use Rattle.response.specs.Runs.{NoLater}
 use Rattle.response.specs.Curves.{models, SmallJitters, busy_answer}
-use Rattle.response.specs.Analysis.{place_answer, row_checks, rows_answer, response_answer, BoundOf, Grounded, NoRunOutlasts, OfResponse}
+use Rattle.response.specs.Analysis.{place_answer, row_checks, rows_answer, response_answer, BoundOf, Grounded, GivesLargest, NoRunOutlasts, OfResponse}
 use Rattle.response.proofs.Searches.{same_search}
 use Rattle.response.proofs.CurveLaws.{busy_never_falls, place_lawful, row_lawful, longest_at_most}
 use Rattle.response.proofs.Bounds.{failed_none, ended_fixed, delayed, bound_covers, bound_reached, instances_positive}
@@ -97,13 +97,15 @@ module _ (rows : List Model) (laws : AllLawful rows) (m : ℕ) (inside : m < len
       let at_place = place_lawful rows laws m inside in
       let period = ended_fixed (place rows m) at_place.0 at_place.1 t rounds e in
       record {
-        time = t;
-        rounds = rounds;
-        is_end = e;
-        fixed = period.0;
-        positive = period.1;
-        within = period.2;
-        delays_end = λ q l. let found = delayed (place rows m) at_place.0 at_place.1 t period q l in (found.value, found.rounds, found.ends);
+        ends = record {
+          time = t;
+          rounds = rounds;
+          is_end = e;
+          fixed = period.0;
+          positive = period.1;
+          within = period.2;
+          delays_end = λ q l. let found = delayed (place rows m) at_place.0 at_place.1 t period q l in (found.value, found.rounds, found.ends);
+        };
         covers = bound_covers (place rows m) at_place.0 at_place.1 (instances (place rows m) t);
         reached = bound_reached (place rows m) at_place.0 at_place.1 (instances (place rows m) t) (instances_positive (place rows m) at_place.0 at_place.1 t period);
       }
@@ -113,8 +115,13 @@ module _ (rows : List Model) (laws : AllLawful rows) (m : ℕ) (inside : m < len
   grounded deadline =
       let at_place = place_lawful rows laws m inside in
       of_response (Grounded (place rows m)) (place rows m) deadline
-      (λ t rounds e n. (ends_so t rounds e, ends_so t rounds e))
+      (λ t rounds e n. ((ends_so t rounds e).ends, (ends_so t rounds e).ends))
       (λ rounds e. failed_none (place rows m) at_place.0 at_place.1 rounds e)
+
+  -- A bound is the largest of what the instances come to.
+  pub largest_given : (deadline : ℕ) → GivesLargest (place rows m) (response (place rows m) deadline)
+  largest_given deadline =
+      of_response (GivesLargest (place rows m)) (place rows m) deadline (λ t rounds e n. (ends_so t rounds e, ends_so t rounds e)) (λ rounds e. tt)
 
   -- No lawful run outlasts the bound.
   bound_holds : (t rounds : ℕ) → busy_search (place rows m) ≡ ended t rounds → NoLater rows m (bound (place rows m) (instances (place rows m) t))
@@ -136,6 +143,9 @@ module _ (rows : List Model) (laws : AllLawful rows) (m : ℕ) (inside : m < len
 -- What the answer of the analysis says, whatever the rows and the place.
 pub answer_grounded : (rows : List Model) → AllLawful rows → (deadlines : List ℕ) (m : ℕ) → OfResponse (Grounded (place rows m)) (response_answer rows deadlines m)
 answer_grounded rows laws deadlines m = of_answer rows deadlines m (Grounded (place rows m)) (λ l. grounded rows laws m l (get_or deadlines m 0))
+
+pub answer_largest : (rows : List Model) → AllLawful rows → (deadlines : List ℕ) (m : ℕ) → OfResponse (GivesLargest (place rows m)) (response_answer rows deadlines m)
+answer_largest rows laws deadlines m = of_answer rows deadlines m (GivesLargest (place rows m)) (λ l. largest_given rows laws m l (get_or deadlines m 0))
 
 pub answer_holds : (rows : List Model) → AllLawful rows → (deadlines : List ℕ) (m : ℕ) → OfResponse (NoRunOutlasts rows m) (response_answer rows deadlines m)
 answer_holds rows laws deadlines m = of_answer rows deadlines m (NoRunOutlasts rows m) (λ l. no_run_outlasts rows laws m l (get_or deadlines m 0))

@@ -17,7 +17,7 @@ use sources::Source;
 
 // Checks the deadline and the jitter of a row.
 fn check_row<S: Source>(source: &S, deadline: u32) -> Result<(), ResponseFault>
-    ensures { answered fault_number (λ u. u) result ≡ row_answer (model S.Source source.now) deadline }
+    ensures { answered fault_number (λ u. u) result ≡ row_answer (model S.Source.own source.now) deadline }
 {
     if deadline < 1 || deadline > HORIZON {
         return Err(ResponseFault::Deadline);
@@ -30,7 +30,7 @@ fn check_row<S: Source>(source: &S, deadline: u32) -> Result<(), ResponseFault>
 
 // Checks every deadline and every jitter, row by row.
 fn check_rows<L: Listed<Of = S>, S: Source>(rows: &[L]) -> Result<(), ResponseFault>
-    ensures { answered fault_number (λ u. u) result ≡ rows_answer (models L.Listed S.Source rows.now) (map L.Listed.deadline rows.now) }
+    ensures { answered fault_number (λ u. u) result ≡ rows_answer (models L.Listed S.Source.own rows.now) (map L.Listed.deadline rows.now) }
 {
     for row in rows {
         check_row(row.source(), row.deadline())?;
@@ -40,7 +40,7 @@ fn check_rows<L: Listed<Of = S>, S: Source>(rows: &[L]) -> Result<(), ResponseFa
 
 // The longest frame of the rows, or 0.
 pub fn longest_frame<L: Listed<Of = S>, S: Source>(rows: &[L]) -> u32
-    ensures { result ≡ longest_of (models L.Listed S.Source rows.now) }
+    ensures { result ≡ longest_of (models L.Listed S.Source.own rows.now) }
 {
     let mut longest = 0;
     for row in rows {
@@ -52,7 +52,7 @@ pub fn longest_frame<L: Listed<Of = S>, S: Source>(rows: &[L]) -> u32
 // The longest frame of the rows below a place, or 0.
 fn blocking_below<L: Listed<Of = S>, S: Source>(rows: &[L], place: usize) -> u32
     requires { place < length rows.now }
-    ensures { result ≡ longest_of (models L.Listed S.Source (drop (place + 1) rows.now)) }
+    ensures { result ≡ longest_of (models L.Listed S.Source.own (drop (place + 1) rows.now)) }
 {
     let (_, below) = rows.split_at(place + 1);
     longest_frame(below)
@@ -114,9 +114,9 @@ fn judge<L: Listed<Of = S>, S: Source>(
     end: u32,
     rounds: u32,
 ) -> Outcome
-    requires ends { busy_search (row_place (models L.Listed S.Source above.now) (model S.Source source.now) blocking) ≡ ended end rounds }
-    requires small { SmallJitters (models L.Listed S.Source above.now) × (S.Source.jitter source.now ≤ horizon) }
-    ensures { outcome_of result ≡ judged_at (row_place (models L.Listed S.Source above.now) (model S.Source source.now) blocking) deadline end rounds }
+    requires ends { busy_search (row_place (models L.Listed S.Source.own above.now) (model S.Source.own source.now) blocking) ≡ ended end rounds }
+    requires small { SmallJitters (models L.Listed S.Source.own above.now) × (S.Source.jitter source.now ≤ horizon) }
+    ensures { outcome_of result ≡ judged_at (row_place (models L.Listed S.Source.own above.now) (model S.Source.own source.now) blocking) deadline end rounds }
 {
     let mut bound = 0;
     let mut all_rounds = rounds;
@@ -136,10 +136,10 @@ pub fn respond<L: Listed<Of = S>, S: Source>(
     rows: &[L],
     place: usize,
 ) -> Result<Outcome, ResponseFault>
-    ensures answer { answered fault_number outcome_of result ≡ response_answer (models L.Listed S.Source rows.now) (map L.Listed.deadline rows.now) place }
-    ensures grounded { OfResponse (Grounded (place_of (models L.Listed S.Source rows.now) place)) (answered fault_number outcome_of result) }
-    ensures largest { OfResponse (GivesLargest (place_of (models L.Listed S.Source rows.now) place)) (answered fault_number outcome_of result) }
-    ensures holds { OfResponse (NoRunOutlasts (models L.Listed S.Source rows.now) place) (answered fault_number outcome_of result) }
+    ensures answer { answered fault_number outcome_of result ≡ response_answer (models L.Listed S.Source.own rows.now) (map L.Listed.deadline rows.now) place }
+    ensures grounded { OfResponse (Grounded (place_of (models L.Listed S.Source.own rows.now) place)) (answered fault_number outcome_of result) }
+    ensures largest { OfResponse (GivesLargest (place_of (models L.Listed S.Source.own rows.now) place)) (answered fault_number outcome_of result) }
+    ensures holds { OfResponse (NoRunOutlasts (models L.Listed S.Source.own rows.now) place) (answered fault_number outcome_of result) }
 {
     check_place(rows.len(), place)?;
     check_rows(rows)?;

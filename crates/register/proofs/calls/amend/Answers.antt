@@ -5,12 +5,12 @@ use Rattle.register.proofs.CallAnswers.{amend_row_denied, amend_absent, amend_do
 use Rattle.register.proofs.MoveLaws.{offset_fits}
 use Rattle.register.proofs.calls.amend.Goals as goal
 
-pub returns-in-err-check_row : goal.returns-in-err-check_row
-returns-in-err-check_row g c =
-    let p = err_from_is_err_and c.from-residual.result c.from-residual.ensures.1 in
+pub returns-in_err-check_row : goal.returns-in_err-check_row
+returns-in_err-check_row g c =
+    let p = err_from_is_err_and c.from_residual.result c.from_residual.ensures.1 in
     let denied =
-    amend_row_denied g.S.Entry g.S.Source (record { places = c.args.slots.now; used = c.args.used }) c.args.row c.from-residual.result _ (p.1 ∙ ap Err p.2)
-    c.in-err-check_row.ensures in
+    amend_row_denied g.S.Entry g.S.Source (record { places = c.args.slots.now; used = c.args.used }) c.args.row c.from_residual.result _ (p.1 ∙ ap Err p.2)
+    c.in_err-check_row.ensures in
     record { answer = denied.0; memory = denied.1 }
 
 pub offset_bounds-slots-at : goal.offset_bounds-slots-at
@@ -20,12 +20,12 @@ pub returns-then-not-at : goal.returns-then-not-at
 returns-then-not-at g c =
     let denied =
     amend_absent g.S.Entry g.S.Source (record { places = c.args.slots.now; used = c.args.used }) c.args.row c.identifier.result c.identifier.ensures c.locate-at.ensures
-    c.in-ok-check_row.ensures (not-true c.locate-at.result.taken c.if-not-at.true) in
+    c.in_ok-check_row.ensures (not-true c.locate-at.result.taken c.if-not-at.true) in
     record { answer = denied.0; memory = denied.1 }
 
 pub returns : goal.returns
 returns g c =
     let done =
     amend_done g.S.Entry g.S.Source (record { places = c.args.slots.now; used = c.args.used }) c.args.row c.identifier.result c.identifier.ensures c.locate-at.ensures
-    c.in-ok-check_row.ensures (not-false c.locate-at.result.taken c.if-not-at.false) c.index-slots-at.result c.amended.result c.amended.ensures _ c.replace.ensures in
+    c.in_ok-check_row.ensures (not-false c.locate-at.result.taken c.if-not-at.false) c.index-slots-at.result c.amended.result c.amended.ensures _ c.replace.ensures in
     record { answer = done.0; memory = done.1 }

@@ -17,14 +17,14 @@ from_here g c a is =
     ∙ ap (λ x. first_of x (checks_from g.L.Listed g.S.Source c.args.rows.now (c.loop-row.row-index + 1)))
     (sym (is ∙ ap₂ (λ s d. row_answer (model g.S.Source s) d) c.source.ensures c.deadline.ensures))
 
-pub returns-in-err-check_row : goal.returns-in-err-check_row
-returns-in-err-check_row g c =
-    let p = err_from_is_err_and c.from-residual.result c.from-residual.ensures.1 in
+pub returns-in_err-check_row : goal.returns-in_err-check_row
+returns-in_err-check_row g c =
+    let p = err_from_is_err_and c.from_residual.result c.from_residual.ensures.1 in
     ap (answered fault_number (λ u. u)) p.1 ∙ ap (λ f. refused (fault_number f)) p.2
-    ∙ sym (from_here g (goal.at.returns-in-err-check_row g c).After-check_row _ c.in-err-check_row.ensures) ∙ c.loop-row.invariant
+    ∙ sym (from_here g (goal.at.returns-in_err-check_row g c).After-check_row _ c.in_err-check_row.ensures) ∙ c.loop-row.invariant
 
 pub loop-row-preserved : goal.loop-row-preserved
-loop-row-preserved g c = sym (from_here g (goal.at.loop-row-preserved g c).After-check_row _ c.in-ok-check_row.ensures) ∙ c.loop-row.invariant
+loop-row-preserved g c = sym (from_here g (goal.at.loop-row-preserved g c).After-check_row _ c.in_ok-check_row.ensures) ∙ c.loop-row.invariant
 
 pub returns : goal.returns
 returns g c = sym (checks_none g.L.Listed g.S.Source c.args.rows.now c.loop-row.row-index c.loop-row-test.false) ∙ c.loop-row.invariant

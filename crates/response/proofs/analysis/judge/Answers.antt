@@ -36,13 +36,13 @@ module _ (g : given.Over) (n : After-instances_within-q-end g) where
 
   number_is : n.instances_within-q-end.result ≡ instances here n.args.end
   number_is =
-      counted_instances here upper_here own_here n.pre.small.0 n.args.end n.args.rounds n.pre.ends n.pre.small.1 n.instances_within-q-end.result n.instances_within-q-end.ensures
+      counted_instances here upper_here own_here n.requires.small.0 n.args.end n.args.rounds n.requires.ends n.requires.small.1 n.instances_within-q-end.result n.instances_within-q-end.ensures
 
   inside : (q : ℕ) → q < n.instances_within-q-end.result → q < instances here n.args.end
   inside q l = omega (arith, number_is)
 
   early : (q : ℕ) → q < n.instances_within-q-end.result → q < horizon
-  early q l = (within_period here upper_here own_here n.pre.small.0 n.args.end n.args.rounds n.pre.ends q (inside q l)).0
+  early q l = (within_period here upper_here own_here n.requires.small.0 n.args.end n.args.rounds n.requires.ends q (inside q l)).0
 
 pub instances_within-q-end-requires : goal.instances_within-q-end-requires
 instances_within-q-end-requires g c =
