@@ -1,5 +1,5 @@
 -- How long a frame can get on the wire, by the number of its payload bytes.
-use Rattle.std.specs.Prelude.{List, [], ◌∷◌, map, ℕ, ◌+◌, ◌*◌, min}
+use Rattle.std.specs.Prelude.{List, [], ◌∷◌, ℕ, ◌+◌, ◌*◌, min}
 
 -- The most bit times of a frame with n payload bytes, stuff bits included: what a frame without payload takes, and ten for each byte.
 abbrev pub longest_frame : ℕ → ℕ → ℕ

@@ -1,5 +1,5 @@
 -- What the loads are as the calls of the sources answer them. Assumes nothing.
-use Rattle.std.proofs.Common.{◌≡◌, ℕ, zero, ◌+◌, ◌≤◌, min, List, [], ◌∷◌, map, refl, ap, ◌∙◌, ap₂, arith}
+use Rattle.std.proofs.Common.{◌≡◌, ℕ, ◌+◌, ◌≤◌, min, List, [], ◌∷◌, map, refl, ap, ◌∙◌, ap₂, arith}
 use Rattle.sources.specs.Streams.{Model, Laws}
 use Rattle.sources.specs.Counts.{count, argument, jitter_answer}
 use Rattle.sources.specs.CountsLemmas.{count_le}

@@ -1,12 +1,11 @@
 -- The judgement of a row, instance by instance. Assumes nothing.
-use Rattle.std.proofs.Common.{◌≡◌, ℕ, zero, suc, ◌+◌, ◌-◌, ◌<◌, ◌≤◌, max, true, false, sym, ap, ◌∙◌, ap₂, zero-add, add-one, arith}
-use Rattle.std.proofs.lemmas.Bool.{le-leb, lt-leb}
-use Rattle.sources.specs.Ranges.{sum_from, largest}
+use Rattle.std.proofs.Common.{◌≡◌, ℕ, suc, ◌+◌, ◌-◌, ◌<◌, ◌≤◌, max, sym, ap, ◌∙◌, ap₂, zero-add, add-one, arith}
+use Rattle.sources.specs.Ranges.{largest}
 use Rattle.sources.specs.Streams.{Laws}
 use Rattle.sources.specs.Counts.{count, argument, gap_answer, jitter_answer}
 use Rattle.sources.specs.RangesLemmas.{largest_more, sum_from_last}
 use Rattle.response.specs.Searches.{Found, horizon, ended, fixed_point, value_of, rounds_of}
-use Rattle.response.specs.Bounds.{AllLawful, Place, busy, delay, busy_search, instances, delay_search, candidate, bound, delay_rounds, ok, late, judged}
+use Rattle.response.specs.Bounds.{AllLawful, Place, delay, busy_search, instances, delay_search, candidate, delay_rounds}
 use Rattle.response.specs.Curves.{SmallJitters, delay_answer}
 use Rattle.response.proofs.Searches.{same_search}
 use Rattle.response.proofs.CurveLaws.{delay_never_falls, work_never_falls}

@@ -8,7 +8,7 @@ use Rattle.sources.specs.Answers.{Answer, made, refused, checked, outside}
 use Rattle.sources.specs.declared.source.Source as source
 use Rattle.response.specs.declared.listed.Listed as listed
 use Rattle.response.specs.Searches.{Found, ended, failed, horizon, fixed_point, value_of}
-use Rattle.response.specs.Bounds.{AllLawful, Place, row_place, load, busy, busy_search, instances, delay, delay_search, Response, ok, late, none, judged, judged_at, response, row, place, longest_of, bound}
+use Rattle.response.specs.Bounds.{AllLawful, Place, row_place, busy, busy_search, instances, delay, delay_search, Response, ok, late, none, judged, judged_at, response, row, place, longest_of, bound}
 use Rattle.response.specs.Runs.{NoLater}
 use Rattle.response.specs.Curves.{models, SmallJitters, busy_answer}
 use Rattle.response.specs.Analysis.{place_answer, row_checks, rows_answer, response_answer, BoundOf, Grounded, GivesLargest, NoRunOutlasts, OfResponse}

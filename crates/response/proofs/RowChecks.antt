@@ -1,7 +1,6 @@
 -- The checks of listed rows, and their longest frame, row by row. Assumes nothing.
-use Rattle.std.proofs.Common.{◌≡◌, ℕ, ◌+◌, ◌<◌, ◌≤◌, max, Bool, true, false, ltb, List, [], ◌∷◌, ◌++◌, map, length, get_or, drop, sym, refl, ap, ◌∙◌}
+use Rattle.std.proofs.Common.{◌≡◌, ℕ, ◌+◌, ◌<◌, ◌≤◌, max, Bool, true, false, List, [], ◌∷◌, ◌++◌, map, length, get_or, drop, sym, refl, ap, ◌∙◌}
 use Rattle.std.proofs.lemmas.List.{at_drop_more, at_drop_all}
-use Rattle.sources.specs.Streams.{Model}
 use Rattle.sources.specs.Models.{model}
 use Rattle.sources.specs.Answers.{Answer, made, refused, checked}
 use Rattle.sources.specs.declared.source.Source as source

@@ -1,5 +1,5 @@
 -- The response bound of one row among the rows of a bus, highest priority first.
-use Rattle.std.specs.Prelude.{◌≡◌, ℕ, zero, suc, ◌+◌, ◌-◌, ◌≤◌, max, true, false, List, [], ◌∷◌, length, take, drop, ◌≢◌, nat_le, slice_index_or}
+use Rattle.std.specs.Prelude.{◌≡◌, ℕ, zero, suc, ◌+◌, ◌-◌, ◌≤◌, max, true, false, List, [], ◌∷◌, take, drop, ◌≢◌, nat_le, slice_index_or}
 use Rattle.sources.specs.Ranges.{sum_from, largest}
 use Rattle.sources.specs.Streams.{Model, Laws}
 use Rattle.sources.specs.Counts.{count}

@@ -1,7 +1,7 @@
 -- What the checks answer where each of them passes. Assumes nothing.
-use Rattle.std.proofs.Common.{◌≡◌, ℕ, ◌*◌, ◌≤◌, Bool, true, false, ◌||◌, ltb, List, [], ◌∷◌, length, get_or, refl, ap, ◌∙◌, arith}
+use Rattle.std.proofs.Common.{◌≡◌, ℕ, ◌*◌, ◌≤◌, Bool, false, ◌||◌, ltb, List, [], ◌∷◌, length, get_or, refl, ap, ◌∙◌, arith}
 use Rattle.std.proofs.lemmas.Bool.{le-ltb, or_from}
-use Rattle.sources.specs.Answers.{Answer, made, checked, outside, some_above, burst_checks, burst_answer}
+use Rattle.sources.specs.Answers.{made, checked, outside, some_above, burst_checks, burst_answer}
 
 -- No check finds a fault.
 abbrev pub NoFault : List (Bool × ℕ) → Type 0

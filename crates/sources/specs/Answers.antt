@@ -1,5 +1,5 @@
 -- What making a source answers: the values of the source, or the number of the first check that fails.
-use Rattle.std.specs.Prelude.{ℕ, ◌+◌, ◌*◌, Bool, true, false, ◌||◌, List, [], ◌∷◌, map, length, Ok, Err, Result, nat_lt, slice_index}
+use Rattle.std.specs.Prelude.{ℕ, ◌*◌, Bool, true, false, ◌||◌, List, [], ◌∷◌, map, length, Ok, Err, Result, nat_lt, slice_index}
 
 pub data Answer (V : Type 0) : Type 0 where
   made : V → Answer V

@@ -1,15 +1,13 @@
 -- A burst source keeps the laws of a source. Assumes nothing.
-use Rattle.std.specs.Prelude.{◌≡◌, ℕ, zero, suc, ◌+◌, ◌-◌, ◌*◌, ◌/◌, ◌%◌, ◌<◌, ◌≤◌, min, ◌⊎◌, length, refl}
-use Rattle.std.proofs.Common.{sym, ap, ap₂, ◌∙◌, inl, inr, ⊎_elim, zero-mul, suc-mul, mod-lt, add-zero, zero-add, add-suc, add_assoc, mul_comm, mul-le-mul_left, mul-le-mul_right, div-mul-le_self, add-one, arith}
+use Rattle.std.specs.Prelude.{◌≡◌, ℕ, zero, suc, ◌+◌, ◌-◌, ◌*◌, ◌/◌, ◌%◌, ◌<◌, ◌≤◌, min, refl}
+use Rattle.std.proofs.Common.{sym, ap, ap₂, ◌∙◌, ⊎_elim, zero-mul, suc-mul, mod-lt, add-suc, mul-le-mul_left, mul-le-mul_right, div-mul-le_self, add-one, arith}
 use Rattle.std.proofs.Math.Nat.{zero-div, zero-mod, lt-div-mul-add}
-use Rattle.std.proofs.lemmas.Bool.{cases_eq, cases_lt}
+use Rattle.std.proofs.lemmas.Bool.{cases_eq}
 use Rattle.std.proofs.lemmas.Nat.{div-add-mod', div-mul-add, mod-mul-add}
-use Rattle.sources.specs.Ranges.{sum_from}
 use Rattle.sources.specs.Counts.{count}
-use Rattle.sources.specs.Streams.{Laws, Stream, instance, bits_from, KeepsGap, KeepsWork, KeepsJitter, KeepsOrder, TakesTime}
-use Rattle.sources.specs.Cycles.{cyclic_gap}
+use Rattle.sources.specs.Streams.{Laws, Stream, instance, KeepsGap, KeepsWork}
 use Rattle.sources.specs.Bursts.{BurstNumbers, burst_gap, burst_work, burst_count, BurstTraffic, burst_model}
-use Rattle.sources.specs.RangesLemmas.{never_falls, sum_from_le, sum_from_constant}
+use Rattle.sources.specs.RangesLemmas.{sum_from_le, sum_from_constant}
 use Rattle.sources.specs.CountsLemmas.{count_unique}
 use Rattle.sources.specs.CyclicLaws.{strides_apart, arrivals_apart, prompt_jitter, prompt_order}
 

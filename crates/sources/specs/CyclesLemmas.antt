@@ -1,10 +1,9 @@
 -- The sums of successive entries of a cycle. Assumes nothing.
-use Rattle.std.specs.Prelude.{◌≡◌, ℕ, zero, suc, ◌+◌, ◌-◌, ◌*◌, ◌/◌, ◌%◌, ◌<◌, ◌≤◌, max, ◌⊎◌, List, length, slice_index, refl}
-use Rattle.std.proofs.Common.{sym, ap, ◌∙◌, subst, inl, inr, ⊎_elim, zero-add, add-zero, add-suc, suc-add, add_comm, mod-lt, suc-mul, zero-mul, mul_comm, add-one, arith}
+use Rattle.std.specs.Prelude.{◌≡◌, ℕ, zero, suc, ◌+◌, ◌*◌, ◌/◌, ◌%◌, ◌<◌, ◌≤◌, List, length, slice_index, refl}
+use Rattle.std.proofs.Common.{sym, ap, ◌∙◌, zero-add, mod-lt, suc-mul, zero-mul, add-one, arith}
 use Rattle.std.proofs.Math.Nat.{add-mod_right, mod-add-mod}
-use Rattle.std.proofs.lemmas.Bool.{cases_eq, cases_lt}
 use Rattle.std.proofs.lemmas.Nat.{div-add-mod'}
-use Rattle.sources.specs.Ranges.{sum_from, largest}
+use Rattle.sources.specs.Ranges.{sum_from}
 use Rattle.sources.specs.Cycles.{FrameCycle, entry, run, cycle_work}
 use Rattle.sources.specs.RangesLemmas.{sum_from_same, sum_from_le, sum_from_split, sum_from_last, sum_from_constant, largest_is_upper, largest_is_least, largest_is_one, largest_above}
 

@@ -1,12 +1,12 @@
 -- A cyclic source keeps the laws of a source. Assumes nothing.
-use Rattle.std.specs.Prelude.{◌≡◌, ℕ, zero, suc, ◌+◌, ◌-◌, ◌*◌, ◌/◌, ◌<◌, ◌≤◌, List, length, refl}
+use Rattle.std.specs.Prelude.{◌≡◌, ℕ, zero, suc, ◌+◌, ◌-◌, ◌*◌, ◌/◌, ◌<◌, ◌≤◌, List, length}
 use Rattle.std.proofs.Common.{sym, ap, ◌∙◌, zero-mul, suc-mul, mul-one, add-zero, div-mul-le_self, add-one, arith}
 use Rattle.std.proofs.Math.Nat.{lt-div-mul-add, add-div_right, div-eq_of_lt}
 use Rattle.sources.specs.Ranges.{sum_from}
 use Rattle.sources.specs.Counts.{count}
-use Rattle.sources.specs.Streams.{Laws, Stream, instance, bits_from, KeepsGap, KeepsWork, KeepsJitter, KeepsOrder, TakesTime}
-use Rattle.sources.specs.Cycles.{FrameCycle, entry, run, cycle_work, cyclic_gap, CyclicTraffic, cyclic_model}
-use Rattle.sources.specs.RangesLemmas.{never_falls, sum_from_le, sum_from_moved}
+use Rattle.sources.specs.Streams.{Laws, Stream, instance, bits_from, KeepsGap, KeepsWork, KeepsJitter, KeepsOrder}
+use Rattle.sources.specs.Cycles.{FrameCycle, entry, cycle_work, cyclic_gap, CyclicTraffic, cyclic_model}
+use Rattle.sources.specs.RangesLemmas.{sum_from_le, sum_from_moved}
 use Rattle.sources.specs.CountsLemmas.{count_unique}
 use Rattle.sources.specs.CyclesLemmas.{run_at_most, cycle_work_zero, cycle_work_rises, cycle_work_small}
 

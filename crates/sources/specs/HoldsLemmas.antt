@@ -1,8 +1,8 @@
 -- A held-up source keeps the laws of a source where the one below does. Assumes nothing.
-use Rattle.std.specs.Prelude.{◌≡◌, ℕ, zero, suc, ◌+◌, ◌<◌, ◌≤◌, length, refl}
-use Rattle.std.proofs.Common.{sym, ap, ◌∙◌, arith}
-use Rattle.sources.specs.Streams.{Model, Laws, Stream, Instance, instance, bits_from, KeepsGap, KeepsWork, KeepsJitter, KeepsOrder, TakesTime}
-use Rattle.sources.specs.Holds.{Later, HeldUpTraffic, held_up_model}
+use Rattle.std.specs.Prelude.{ℕ, ◌+◌, ◌≤◌}
+use Rattle.std.proofs.Common.{arith}
+use Rattle.sources.specs.Streams.{Model, Laws, Stream, instance, bits_from, KeepsGap, KeepsWork, KeepsJitter, TakesTime}
+use Rattle.sources.specs.Holds.{HeldUpTraffic, held_up_model}
 use Rattle.sources.specs.RangesLemmas.{sum_from_le}
 
 module _ (hold : ℕ) (m : Model) (laws : Laws m) (s : Stream) (held : HeldUpTraffic hold m.traffic s) where

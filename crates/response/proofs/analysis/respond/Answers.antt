@@ -3,7 +3,7 @@ use Rattle.std.proofs.lemmas.Result.{err_from_is_err_and}
 use Rattle.sources.specs.Answers.{Answer, made, refused, answered}
 use Rattle.sources.specs.Streams.{Model}
 use Rattle.sources.specs.Models.{model}
-use Rattle.response.specs.Searches.{Found, ended, failed, horizon, fixed_point}
+use Rattle.response.specs.Searches.{Found, ended, horizon, fixed_point}
 use Rattle.response.specs.Bounds.{Place, row_place, busy_search, Response, response, judged_at, place}
 use Rattle.response.specs.Curves.{models, SmallJitters, busy_answer}
 use Rattle.response.specs.Views.{fault_number, outcome_of}

@@ -1,4 +1,4 @@
-use Rattle.std.proofs.Common.{◌≡◌, ◌+◌, get_or, sym, ◌∙◌, arith, length-set}
+use Rattle.std.proofs.Common.{◌+◌, arith, length-set}
 use Rattle.sources.specs.Cycles.{run}
 use Rattle.sources.specs.CyclesLemmas.{run_small, run_more}
 use Rattle.sources.proofs.Tables.{filled_more}

@@ -1,4 +1,4 @@
-use Rattle.std.proofs.Common.{◌≡◌, ℕ, ◌+◌, length}
+use Rattle.std.proofs.Common.{◌≡◌, ◌+◌, length}
 use Rattle.sources.specs.Cycles.{run}
 use Rattle.sources.proofs.Tables.{Filled}
 use Rattle.sources.proofs.cycle.running_sums.Given as goal

@@ -1,4 +1,4 @@
-use Rattle.std.proofs.Common.{◌≡◌, ℕ, suc, ◌+◌, ◌-◌, ◌*◌, ◌/◌, ◌%◌, ◌≤◌, min, sym, ap, ◌∙◌, mul-le-mul_left, div-mul-le_self, arith}
+use Rattle.std.proofs.Common.{◌≡◌, ℕ, suc, ◌+◌, ◌-◌, ◌*◌, ◌/◌, ◌≤◌, sym, ap, ◌∙◌, mul-le-mul_left, div-mul-le_self, arith}
 use Rattle.sources.specs.Counts.{argument}
 use Rattle.sources.specs.Bursts.{BurstNumbers, burst_count}
 use Rattle.sources.specs.BurstLaws.{room, burst_count_is}

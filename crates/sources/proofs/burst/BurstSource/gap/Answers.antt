@@ -1,4 +1,4 @@
-use Rattle.std.proofs.Common.{◌*◌, ◌/◌, ◌%◌, mod-lt, div-le_self, arith}
+use Rattle.std.proofs.Common.{◌/◌, ◌%◌, div-le_self, arith}
 use native.Mathlib.Nat.{mod-le}
 use Rattle.std.proofs.lemmas.Nat.{mul-le}
 use Rattle.sources.proofs.burst.BurstSource.gap.Goals as goal

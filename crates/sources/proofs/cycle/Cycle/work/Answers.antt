@@ -1,4 +1,4 @@
-use Rattle.std.proofs.Common.{◌≡◌, ℕ, ◌+◌, ◌*◌, ◌/◌, ◌%◌, ◌<◌, ◌≤◌, length, get_or, sym, ◌∙◌, subst, ap₂, mod-lt, arith}
+use Rattle.std.proofs.Common.{◌≡◌, ℕ, ◌+◌, ◌*◌, ◌/◌, ◌%◌, ◌≤◌, length, get_or, sym, ◌∙◌, subst, ap₂, mod-lt, arith}
 use Rattle.sources.specs.declared.cycle.Cycle.{Cycle}
 use Rattle.sources.specs.Cycles.{cycle_work}
 use Rattle.sources.specs.Values.{lengths_of}

@@ -1,4 +1,4 @@
-use Rattle.std.proofs.Common.{◌≡◌, sym, ◌∙◌}
+use Rattle.std.proofs.Common.{sym, ◌∙◌}
 use Rattle.sources.specs.Counts.{argument}
 use Rattle.sources.specs.CyclicLaws.{cyclic_count}
 use Rattle.sources.proofs.cyclic.CyclicSource.count.Goals as goal
