@@ -1,5 +1,5 @@
 -- What enter, amend and withdraw answer, check by check, and the memory they leave. Assumes nothing.
-use Rattle.std.proofs.Common.{◌≡◌, ℕ, suc, ◌+◌, ◌-◌, Bool, true, false, not, List, [], ◌∷◌, ◌++◌, length, drop, set, Err, Result, sym, refl, ap, ◌∙◌, arith}
+use Rattle.std.proofs.Common.{◌≡◌, ℕ, suc, ◌+◌, ◌-◌, Bool, true, false, not, List, [], ◌∷◌, ◌++◌, length, drop, set, Ok, Err, Result, sym, refl, ap, ◌∙◌, arith}
 use Rattle.sources.specs.Models.{model}
 use Rattle.sources.specs.Answers.{Answer, made, refused, answered, checked}
 use Rattle.sources.specs.declared.source.Entry as entry
@@ -13,7 +13,7 @@ use Rattle.register.specs.declared.uses.RegisterFault.TheVariants.{Full, Absent}
 use Rattle.register.specs.Faults.{fault_number}
 use Rattle.register.specs.Tables.{inserted, removed}
 use Rattle.register.specs.Calls.{place_in, is_in, full, become, withdraw_checks}
-use Rattle.register.specs.Slots.{slots, with_row, Memory, standing, laid, used_after, WhereIs, accepted, stored, longest_from, unsettled_memory, enter_memory, amend_memory, withdraw_memory}
+use Rattle.register.specs.Slots.{slots, with_row, Memory, standing, laid, count_of, used_after, WhereIs, accepted, stored, longest_from, unsettled_memory, enter_memory, amend_memory, withdraw_memory}
 use Rattle.register.proofs.MemoryLaws.{entered, replaced, withdrawn}
 use Rattle.register.proofs.SettleLaws.{checked_next, checked_refused}
 
@@ -48,6 +48,15 @@ denied_by memory a result fault n is number refuses = (
   ap (answered fault_number (λ _. tt {0})) is ∙ ap refused number ∙ sym (ap accepted refuses),
   ap (λ r. record { places = memory.places; used = used_after memory.used r }) is ∙ sym (ap (stored memory) refuses),
 )
+
+-- How many rows there are after a call, from whether it is accepted and the memory it leaves.
+pub counted : {S : Type 0} (memory : Memory S) (a : Answer (List (Slot S))) (result : Result ℕ RegisterFault) (places : List (Slot S)) →
+    answered fault_number (λ _. tt {0}) result ≡ accepted a → ◌≡◌ {A = Memory S} (record { places = places; used = used_after memory.used result }) (stored memory a) →
+    answered fault_number (λ n. n) result ≡ count_of a
+counted memory (made rows) (Ok n) places accepts whole = ap made (ap (λ m. m.used) whole)
+counted memory (refused k) (Ok n) places accepts whole = let z : ◌≡◌ {A = ℕ} 0 1 = cc in absurd (omega arith)
+counted memory (made rows) (Err f) places accepts whole = let z : ◌≡◌ {A = ℕ} 0 1 = cc in absurd (omega arith)
+counted memory (refused k) (Err f) places accepts whole = let same : fault_number f ≡ k = cc in ap refused same
 
 module _ {S : Type 0} (names : entry.Ghosts S) (sources : source.Ghosts S) (memory : Memory S) where
   -- The calls on a row.

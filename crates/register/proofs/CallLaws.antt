@@ -1,5 +1,5 @@
 -- The checks of the calls, and what passes them. Assumes nothing.
-use Rattle.std.proofs.Common.{◌≡◌, ℕ, ◌<◌, ◌≤◌, Bool, true, false, not, ◌||◌, ltb, leb, List, [], ◌∷◌, length, refl}
+use Rattle.std.proofs.Common.{◌≡◌, ℕ, ◌<◌, ◌≤◌, Bool, true, false, ltb, leb, List, [], ◌∷◌, length, refl}
 use Rattle.std.proofs.lemmas.Bool.{ltb-false, leb-false, or_parts, not-false}
 use Rattle.sources.specs.Answers.{Answer, made, refused, checked, outside}
 use Rattle.sources.specs.declared.source.Entry as entry

@@ -1,5 +1,5 @@
 -- The rows within memory, and memory after a change of rows. Assumes nothing.
-use Rattle.std.proofs.Common.{◌≡◌, ℕ, suc, ◌+◌, ◌-◌, ◌<◌, ◌≤◌, min, true, false, List, ◌∷◌, ◌++◌, map, length, get_or, take, drop, set, None, sym, ap, ◌∙◌, ap₂, ⊎_elim, true≢false, add-one, arith}
+use Rattle.std.proofs.Common.{◌≡◌, ℕ, suc, ◌+◌, ◌-◌, ◌<◌, ◌≤◌, min, true, List, ◌∷◌, ◌++◌, map, length, get_or, take, drop, set, None, sym, ap, ◌∙◌, ap₂, ⊎_elim, true≢false, add-one, arith}
 use Rattle.std.proofs.lemmas.List.{append_assoc, length-append, length-map, length-take, length-take-le, length-drop, take_all, take-take, take_at, drop_at, drop-take, set_split, take-append-drop, drop-drop, drop_more, get_or-take}
 use Rattle.std.proofs.lemmas.Bool.{cases_lt}
 use Rattle.sources.specs.declared.source.Entry as entry
@@ -9,7 +9,7 @@ use Rattle.register.specs.Tables.{starts_with, inserted, removed, longest, unset
 use Rattle.register.specs.Calls.{frame, become}
 use Rattle.register.specs.Slots.{slots, with_outcome, Memory, laid, longest_from, unsettled_memory}
 use Rattle.register.proofs.FindLaws.{starts_none}
-use Rattle.register.proofs.UnsettleLaws.{length_unsettle, above_then_from}
+use Rattle.register.proofs.UnsettleLaws.{length_unsettle}
 
 -- Taking no more than there is.
 pub take_min : {A : Type 0} (n : ℕ) (e : List A) → take (min n (length e)) e ≡ take n e
@@ -70,8 +70,6 @@ module _ {S : Type 0} (names : entry.Ghosts S) (sources : source.Ghosts S) (e : 
       unsettle_above (frame names sources slots) (with_outcome None) f x (longest (frame names sources slots) a) ++ (map (with_outcome None) a ++ p) in
       let laid_so : final ≡ become names sources slots place after rows ++ drop end e =
       unsettled
-      ∙ above_then_from (frame names sources slots) (with_outcome None) m place before (longest (frame names sources slots) (take (end - place) (drop place m))) end
-      (ap length front ∙ length-take-le place e (omega arith)) before_end
       ∙ ap₂ (λ f a. parts f before a (drop end m)) front new
       ∙ ap₂ (λ f p. parts f before after p) (sym rows_front) past
       ∙ ap (λ x. parts (take place rows) x after (drop end e)) (ap (longest (frame names sources slots)) (sym (back_is count place e in_rows)))

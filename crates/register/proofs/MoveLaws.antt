@@ -1,5 +1,5 @@
 -- Moving rows within memory. Assumes nothing.
-use Rattle.std.proofs.Common.{◌≡◌, ℕ, zero, suc, ◌+◌, ◌-◌, ◌*◌, ◌^◌, ◌<◌, ◌≤◌, List, [], ◌∷◌, ◌++◌, map, length, get_or, take, drop, set, sym, refl, ap, ◌∙◌, ap₂, mul-le-mul_right, arith, w64, Fits}
+use Rattle.std.proofs.Common.{◌≡◌, ℕ, suc, ◌+◌, ◌-◌, ◌*◌, ◌^◌, ◌<◌, ◌≤◌, List, [], ◌∷◌, ◌++◌, map, length, get_or, take, drop, set, sym, ap, ◌∙◌, ap₂, mul-le-mul_right, arith, w64, Fits}
 use Rattle.std.proofs.lemmas.List.{append_assoc, length-append, length-take-le, set_at, take_more, drop_more, get_or-append_right, get_or-drop, length-drop, take-append-drop, get_or-map}
 
 -- Places from place up to i hold the first of xs, and all others what they held.

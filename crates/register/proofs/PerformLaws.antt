@@ -1,8 +1,8 @@
 -- Memory and replies over a list of uses. Assumes nothing.
-use Rattle.std.proofs.Common.{◌≡◌, ℕ, suc, ◌+◌, ◌-◌, ◌<◌, ◌≤◌, not, List, [], ◌∷◌, ◌++◌, map, length, get_or, take, drop, Some, None, sym, refl, ap, ◌∙◌, subst, ap₂, arith}
+use Rattle.std.proofs.Common.{◌≡◌, ℕ, suc, ◌+◌, ◌<◌, ◌≤◌, not, List, [], ◌∷◌, ◌++◌, map, length, get_or, take, drop, Some, None, sym, refl, ap, ◌∙◌, subst, ap₂, arith}
 use Rattle.std.proofs.lemmas.List.{length-append, length-drop, length-map, length-take, length-take-le, take_more}
 use Rattle.sources.specs.Streams.{Laws}
-use Rattle.sources.specs.Answers.{Answer, made, refused}
+use Rattle.sources.specs.Answers.{Answer}
 use Rattle.sources.specs.Models.{model}
 use Rattle.sources.specs.declared.source.Entry as entry
 use Rattle.sources.specs.declared.source.Source as source
@@ -10,9 +10,9 @@ use Rattle.response.specs.Analysis.{row_checks}
 use Rattle.register.specs.declared.slot.Slot.{Slot}
 use Rattle.register.specs.declared.uses.Use.{Use}
 use Rattle.register.specs.declared.uses.Use.TheVariants.{Enter, Amend, Withdraw, Settle, LookUp}
-use Rattle.register.specs.Tables.{longest, unsettle_above, on_first, change_at}
+use Rattle.register.specs.Tables.{longest, unsettle_above, on_first}
 use Rattle.register.specs.Calls.{identifier, frame, models, place_in, is_in, become, enter_checks, amend_checks, withdraw_checks}
-use Rattle.register.specs.Slots.{slots, with_outcome, outcome_for, response_at, Memory, opened, standing, laid, stored, enter_memory, amend_memory, withdraw_memory, settle_memory}
+use Rattle.register.specs.Slots.{slots, with_outcome, outcome_for, response_at, Memory, opened, standing, laid, stored}
 use Rattle.register.specs.Steps.{Reply, register_step, register_after, register_replies, memory_step, memory_after}
 use Rattle.register.specs.Promises.{Promise}
 use Rattle.register.proofs.TableLaws.{place_within, place_inside}

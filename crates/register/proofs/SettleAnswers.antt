@@ -1,5 +1,5 @@
 -- What settle and look up answer, from the analysis and from what is stored, and the memory that settle leaves. Assumes nothing.
-use Rattle.std.proofs.Common.{◌≡◌, ℕ, suc, ◌<◌, Bool, true, false, not, List, [], ◌∷◌, map, length, get_or, take, drop, set, Some, None, Err, Result, sym, refl, ap, ◌∙◌, arith}
+use Rattle.std.proofs.Common.{◌≡◌, ℕ, suc, ◌<◌, Bool, true, false, not, List, [], ◌∷◌, map, length, get_or, take, drop, set, Some, Err, Result, sym, refl, ap, ◌∙◌, arith}
 use Rattle.std.proofs.lemmas.List.{drop_more}
 use Rattle.sources.specs.Streams.{Model}
 use Rattle.sources.specs.Answers.{Answer, made, refused}
@@ -7,7 +7,7 @@ use Rattle.sources.specs.declared.source.Entry as entry
 use Rattle.sources.specs.declared.source.Source as source
 use Rattle.response.specs.declared.outcome.Outcome.{Outcome}
 use Rattle.response.specs.declared.outcome.Outcome.TheVariants as outcomes
-use Rattle.response.specs.Bounds.{Response, response}
+use Rattle.response.specs.Bounds.{Response}
 use Rattle.response.specs.Views.{outcome_of}
 use Rattle.response.specs.Analysis.{row_checks, rows_answer, response_answer}
 use Rattle.response.proofs.Responding.{with_values, checked_with, a_row}

@@ -43,6 +43,6 @@ returns g c =
     record {
       count = c.performed-count.ensures;
       rest = ap (λ i. drop i c.loop-i.answers) (sym end) ∙ c.loop-i.invariant.2 ∙ ap (λ i. drop i c.args.answers.now) end;
-      memory = c.slots·1.given.1.1 (sym names) ∙ last;
+      memory = c.slots-1.given.1.1 (sym names) ∙ last;
       promise = promise_kept g.S.Entry g.S.Source g.met.S.Source.lawful c.args.slots.now (take n uses) _ replies;
     }

@@ -1,4 +1,4 @@
-use Rattle.std.proofs.Common.{◌≡◌, ◌+◌, ◌-◌, ◌++◌, map, length, get_or, take, drop, set, None, sym, ap, ◌∙◌, arith}
+use Rattle.std.proofs.Common.{◌≡◌, ◌-◌, ◌++◌, map, length, get_or, take, drop, set, None, sym, ap, ◌∙◌, arith}
 use Rattle.std.proofs.lemmas.List.{length-drop, length-map, take-map}
 use Rattle.register.specs.Slots.{with_outcome}
 use Rattle.register.proofs.MoveLaws.{laid_out, none_written, written, not_yet, mapped_at, offset_fits}

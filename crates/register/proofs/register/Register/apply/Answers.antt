@@ -1,4 +1,4 @@
-use Rattle.std.proofs.Common.{◌≡◌, ℕ, List, length, sym, refl, ap, ◌∙◌}
+use Rattle.std.proofs.Common.{ℕ, List, length, sym, refl, ap, ◌∙◌}
 use Rattle.register.specs.declared.slot.Slot.{Slot}
 use Rattle.register.specs.declared.uses.Use.{Use}
 use Rattle.register.specs.Slots.{Memory, standing, enter_memory, amend_memory, withdraw_memory, settle_memory, look_up_memory}
