@@ -1,5 +1,5 @@
 -- The worked cases of the register.
-use Rattle.std.specs.Prelude.{◌≡◌, ℕ, List, [], ◌∷◌, ◌++◌, map}
+use Rattle.std.specs.Prelude.{◌≡◌, ℕ, List, [], ◌∷◌, map}
 use Rattle.frames.specs.Frames.{longest_frame}
 use Rattle.sources.specs.Cycles.{cycle_work, cyclic_gap, CyclicTraffic}
 use Rattle.sources.specs.Answers.{CyclicValues}
