@@ -115,19 +115,10 @@ module _ {S : Type 0} (names : entry.Ghosts S) (sources : source.Ghosts S) where
   abbrev pub look_up_memory : ℕ → Memory S → Answer Response
   look_up_memory id memory = look_up_slots names sources id (standing memory)
 
--- Memory in which the rows from a place up to an end are unsettled.
-abbrev pub unsettled_from : {S : Type 0} → ℕ → ℕ → List (Slot S) → List (Slot S)
-unsettled_from place end memory = take place memory ++ (map (with_outcome None) (slice_range memory place end) ++ drop end memory)
-
 module _ {S : Type 0} (names : entry.Ghosts S) (sources : source.Ghosts S) where
   -- The longest frame of the rows from a place up to an end.
   abbrev pub longest_from : ℕ → ℕ → List (Slot S) → ℕ
   longest_from place end memory = longest (frame names sources slots) (slice_range memory place end)
-
-  -- Memory in which the rows above a place are unsettled as their longest frame below is changed, where the rows from the place on have
-  -- the given longest frame before and after.
-  abbrev pub unsettled_above : ℕ → ℕ → ℕ → List (Slot S) → List (Slot S)
-  unsettled_above place before after memory = unsettle_above (frame names sources slots) (with_outcome None) (take place memory) before after ++ drop place memory
 
   -- Memory in which the rows from a place up to an end are new: what a change there unsettles is unsettled.
   abbrev pub unsettled_memory : ℕ → ℕ → ℕ → List (Slot S) → List (Slot S)
