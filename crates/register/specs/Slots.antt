@@ -1,5 +1,5 @@
 -- The register's rows in memory: slots, with the outcomes that settle stored.
-use Rattle.std.specs.Prelude.{◌≡◌, ℕ, ◌-◌, ◌<◌, ◌≤◌, Bool, true, false, not, List, [], ◌∷◌, ◌++◌, map, length, take, drop, Some, None, Ok, Err, Option, Result, nat_lt, slice_index, slice_range}
+use Rattle.std.specs.Prelude.{◌≡◌, ℕ, ◌-◌, ◌<◌, ◌≤◌, Bool, true, false, not, List, [], ◌∷◌, ◌++◌, map, length, take, drop, Some, None, Ok, Err, Option, Result, nat_lt, slice_index}
 use Rattle.sources.specs.Answers.{Answer, made, refused, checked}
 use Rattle.sources.specs.declared.source.Entry as entry
 use Rattle.sources.specs.declared.source.Source as source
@@ -118,7 +118,7 @@ module _ {S : Type 0} (names : entry.Ghosts S) (sources : source.Ghosts S) where
 module _ {S : Type 0} (names : entry.Ghosts S) (sources : source.Ghosts S) where
   -- The longest frame of the rows from a place up to an end.
   abbrev pub longest_from : ℕ → ℕ → List (Slot S) → ℕ
-  longest_from place end memory = longest (frame names sources slots) (slice_range memory place end)
+  longest_from place end memory = longest (frame names sources slots) (take (end - place) (drop place memory))
 
   -- Memory in which the rows from a place up to an end are new: what a change there unsettles is unsettled.
   abbrev pub unsettled_memory : ℕ → ℕ → ℕ → List (Slot S) → List (Slot S)

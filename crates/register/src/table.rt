@@ -1,5 +1,5 @@
 // The ordered table: finding a row by its identifier, and moving rows within lent memory.
-ghost use Rattle.std.specs.Prelude.{◌≡◌, ℕ, ◌+◌, ◌-◌, ◌<◌, ◌≤◌, ◌∷◌, ◌++◌, length, take, drop, nat_lt, slice_index_or, slice_range, slice_set};
+ghost use Rattle.std.specs.Prelude.{◌≡◌, ℕ, ◌+◌, ◌-◌, ◌<◌, ◌≤◌, ◌∷◌, ◌++◌, length, take, drop, nat_lt, slice_index_or, slice_set};
 ghost use Rattle.register.specs.Tables.{place_of, starts_with};
 
 use sources::Entry;
@@ -52,7 +52,7 @@ fn exchange<T: Copy>(places: &mut [T], place: usize, row: T) -> T
 // Puts a row at a place and moves those from there up to the end down by one.
 pub(crate) fn insert<T: Copy>(places: &mut [T], place: usize, end: usize, row: T)
     requires { (place ≤ end) × (end < length places.old) }
-    ensures { places.new ≡ take place places.old ++ (row ∷ (slice_range places.old place end ++ drop (end + 1) places.old)) }
+    ensures { places.new ≡ take place places.old ++ (row ∷ (take (end - place) (drop place places.old) ++ drop (end + 1) places.old)) }
 {
     let mut carried = row;
     for i in place..end + 1 {
