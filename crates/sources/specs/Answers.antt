@@ -1,5 +1,6 @@
 -- What making a source answers: the values of the source, or the number of the first check that fails.
 use Rattle.std.specs.Prelude.{ℕ, ◌*◌, Bool, true, false, ◌||◌, List, [], ◌∷◌, map, length, Ok, Err, Result, nat_lt, slice_index}
+use Rattle.std.specs.List.{list_any}
 
 pub data Answer (V : Type 0) : Type 0 where
   made : V → Answer V
@@ -21,8 +22,7 @@ outside low high n = nat_lt n low || nat_lt high n
 
 -- Some number of the list is above a limit.
 abbrev pub some_above : ℕ → List ℕ → Bool
-some_above limit [] = false
-some_above limit (n ∷ ns) = nat_lt limit n || some_above limit ns
+some_above limit ns = list_any (nat_lt limit) ns
 
 pub record CyclicValues : Type 0 where
   pub identifier : ℕ

@@ -6,6 +6,7 @@ pub mod Bursts
 pub mod Holds
 pub mod Faults
 pub mod Answers
+pub mod Lengths
 pub mod Values
 pub mod Models
 pub mod BurstLaws

@@ -1,58 +1,47 @@
 // The burst source: a message that comes in bursts of a few frames of one length.
-ghost use Rattle.std.specs.Prelude.{◌≡◌, ℕ, ◌+◌, ◌-◌, ◌*◌, ◌≤◌};
+ghost use Rattle.std.specs.Prelude.{◌≡◌, ℕ, Ok};
 ghost use Rattle.sources.specs.Counts.{count, argument};
-ghost use Rattle.sources.specs.Bursts.{BurstNumbers, burst_gap, burst_work, burst_count, BurstTraffic};
+ghost use Rattle.sources.specs.Bursts.{burst_gap, burst_work, burst_count, BurstTraffic};
 ghost use Rattle.sources.specs.Faults.{fault_number};
-ghost use Rattle.sources.specs.Answers.{answered, BurstValues, burst_answer};
+ghost use Rattle.sources.specs.Answers.{answered, burst_answer};
+ghost use Rattle.sources.specs.Values.{burst_values};
 ghost use Rattle.sources.specs.BurstLaws.{burst_laws};
 
 use crate::fault::RowFault;
 use crate::payloads::oversized;
 use crate::source::{Entry, Source};
+use crate::volley::Volley;
 use frames::{Format, Identifier};
+use std::alloc::AllocError;
+use std::marker::PhantomData;
 
-// Frames of the given bits, each at least the spacing after the one before, and at least a period after the one that is size before.
-#[derive(Copy)]
-pub struct Burst<F, I> {
-    format: F,
-    identifier: I,
-    period: u32,
-    size: u32,
-    spacing: u32,
-    bits: u32,
-    ghost regular: { (1 ≤ period) × (period ≤ 1000000) },
-    ghost numbers: { BurstNumbers size spacing period },
-    ghost frame: { (1 ≤ bits) × (bits ≤ 160) },
+// Volleys of frames with one identifier, in a format. No generic source over a cycle or a volley: count states a closed form for each.
+#[derive(Clone, Copy)]
+pub struct Burst<F> {
+    format: PhantomData<F>,
+    identifier: u32,
+    volley: Volley,
 }
 
-impl<F: Copy, I: Copy> Clone for Burst<F, I> {
-    ghost is_clone = { λ c d. d ≡ c };
-
-    ghost is_infallible = { λ c. c ≡ c };
-
-    fn clone(&self) -> Result<Burst<F, I>, std::alloc::AllocError> {
-        Ok(*self)
-    }
-}
-
-impl<F: Format<Id = I>, I: Identifier> Burst<F, I> {
+impl<F: Format> Burst<F> {
     // Refused, in this order, with 11 for an identifier above the format's highest, 12 for a period not 100 × size to 1,000,000,
     // 13 for a payload count not 1, 14 for a payload above 8, and 15 for a size not 1 to 16, no spacing, or a period below
     // size × spacing.
     pub fn new(
-        format: F,
-        identifier: I,
+        _format: F,
+        identifier: F::Id,
         period: u32,
         size: u32,
         spacing: u32,
         payloads: &[u8],
-    ) -> Result<Burst<F, I>, RowFault>
-        ensures { answered {V = BurstValues} fault_number (λ b. record { identifier = I.Identifier.number b.identifier; period = b.period; size = b.size; spacing = b.spacing; bits = b.bits }) result ≡ burst_answer F.Format.highest F.Format.longest (I.Identifier.number identifier) period size spacing payloads.now }
+    ) -> Result<Burst<F>, RowFault>
+        ensures { answered fault_number burst_values result ≡ burst_answer F.Format.HIGHEST F.Format.longest (F.Id.number identifier) period size spacing payloads.now }
     {
-        if identifier.number() > F::highest_identifier() {
+        let identifier = identifier.number();
+        if identifier > F::HIGHEST {
             return Err(RowFault::Identifier);
         }
-        if (period as u64) < 100 * size as u64 || period > 1_000_000 {
+        if u64::from(period) < 100 * u64::from(size) || period > 1_000_000 {
             return Err(RowFault::Period);
         }
         if payloads.len() != 1 {
@@ -61,48 +50,48 @@ impl<F: Format<Id = I>, I: Identifier> Burst<F, I> {
         if oversized(payloads) {
             return Err(RowFault::Payload);
         }
-        if size < 1 || size > 16 || spacing < 1 || (period as u64) < size as u64 * spacing as u64 {
+        let room = u64::from(size) * u64::from(spacing);
+        if !(1..=16).contains(&size) || spacing < 1 || u64::from(period) < room {
             return Err(RowFault::Burst);
         }
         Ok(Burst {
-            format,
+            format: PhantomData,
             identifier,
-            period,
-            size,
-            spacing,
-            bits: F::longest_frame(payloads[0]),
+            volley: Volley {
+                period,
+                size,
+                spacing,
+                bits: F::longest_frame(payloads[0]),
+            },
         })
     }
 }
 
-impl<F: Format<Id = I>, I: Identifier> Entry for Burst<F, I> {
-    ghost identifier = { λ b. I.Identifier.number b.identifier };
+impl<F> Entry for Burst<F> {
+    ghost identifier = { λ b. b.identifier };
 
     fn identifier(&self) -> u32 {
-        self.identifier.number()
+        self.identifier
     }
 }
 
-impl<F: Format<Id = I>, I: Identifier> Source for Burst<F, I> {
-    ghost gap = { λ b. burst_gap b.size b.spacing b.period };
+impl<F> Source for Burst<F> {
+    ghost gap = { λ b. burst_gap b.volley.size b.volley.spacing b.volley.period };
 
-    ghost work = { λ b. burst_work b.bits };
+    ghost work = { λ b. burst_work b.volley.bits };
 
     ghost jitter = { λ _. 0 };
 
-    ghost traffic = { λ b. BurstTraffic b.size b.spacing b.period b.bits };
+    ghost traffic = { λ b. BurstTraffic b.volley.size b.volley.spacing b.volley.period b.volley.bits };
 
-    ghost lawful = { λ s. burst_laws s.size s.spacing s.period s.numbers s.bits s.frame.0 s.frame.1 };
+    ghost lawful = { λ b. burst_laws b.volley.size b.volley.spacing b.volley.period b.volley.numbers b.volley.bits b.volley.frame.0 b.volley.frame.1 };
 
     fn gap(&self, q: u32) -> u32 {
-        let q = q.min(2_000_001);
-        let bursts = (q / self.size) as u64 * self.period as u64;
-        let rest = (q % self.size) as u64 * self.spacing as u64;
-        (bursts + rest).min(2_000_001) as u32
+        self.volley.gap(q)
     }
 
     fn work(&self, k: u32) -> u32 {
-        k.min(2_000_001) * self.bits
+        self.volley.work(k)
     }
 
     fn jitter(&self) -> u32 {
@@ -110,15 +99,16 @@ impl<F: Format<Id = I>, I: Identifier> Source for Burst<F, I> {
     }
 
     fn count(&self, x: u32) -> u32
-        ensures value { result ≡ count (burst_gap self.now.size self.now.spacing self.now.period) (argument x) }
-        ensures closed { result ≡ burst_count self.now.size self.now.spacing self.now.period (argument x) }
+        ensures value { result ≡ count (burst_gap self.now.volley.size self.now.volley.spacing self.now.volley.period) (argument x) }
+        ensures closed { result ≡ burst_count self.now.volley.size self.now.volley.spacing self.now.volley.period (argument x) }
     {
-        if x == 0 {
-            return 0;
-        }
-        let last = x.min(2_000_001) - 1;
-        let bursts = last / self.period;
-        let rest = (last % self.period / self.spacing).min(self.size - 1);
-        bursts * self.size + rest + 1
+        self.volley.count(x)
     }
+}
+
+// A clone is the same source, and making it does not fail.
+fn cloned<F: Clone>(source: &Burst<F>) -> Result<Burst<F>, AllocError>
+    ensures { result ≡ Ok source.now }
+{
+    source.clone()
 }

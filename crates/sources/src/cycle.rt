@@ -1,81 +1,63 @@
-// A cycle of frame lengths, with the largest sums of successive ones.
-ghost use Rattle.std.specs.Prelude.{◌≡◌, ℕ, ◌+◌, ◌*◌, ◌<◌, ◌≤◌, length, take, slice_index};
-ghost use Rattle.sources.specs.Cycles.{FrameCycle, run, cycle_work};
+// A cycle of frame lengths, one frame each period, with the largest sums of successive ones.
+ghost use Rattle.std.specs.Prelude.{◌≡◌, ℕ, ◌+◌, ◌-◌, ◌*◌, ◌/◌, ◌<◌, ◌≤◌, length, slice_index};
+ghost use Rattle.sources.specs.Counts.{argument, gap_answer};
+ghost use Rattle.sources.specs.Cycles.{cycle_work, cyclic_gap};
+ghost use Rattle.sources.specs.Lengths.{lengths_of};
 
-// lengths holds size frame lengths, and most, at k up to size, the largest sum of k successive ones, going round.
+use crate::lengths::Lengths;
+use crate::limits::{argument, gap_answer};
+
+// At k up to the number of lengths, most holds the largest sum of k successive ones, going round.
 #[derive(Clone, Copy)]
 pub struct Cycle {
-    size: usize,
-    lengths: [u32; 32],
+    period: u32,
+    lengths: Lengths,
     most: [u32; 33],
-    ghost few: { (size ≤ 32) × (length (take size lengths) ≡ size) },
-    ghost frames: { FrameCycle (take size lengths) },
-    ghost sums: { (k : ℕ) → k < size + 1 → slice_index most k ≡ cycle_work (take size lengths) k },
-}
-
-// The sums of the first lengths, twice round: at i that of the first i.
-fn running_sums(cycle: &[u32]) -> [u32; 65]
-    requires few { length cycle.now ≤ 32 }
-    requires frames { FrameCycle cycle.now }
-    ensures { (i : ℕ) → i < 2 * length cycle.now + 1 → slice_index result i ≡ run cycle.now 0 i }
-{
-    let mut sums = [0; 65];
-    for i in 0..2 * cycle.len() {
-        sums[i + 1] = sums[i] + cycle[i % cycle.len()];
-    }
-    sums
-}
-
-// The largest sum of k successive lengths, from the running sums.
-fn largest_run(cycle: &[u32], sums: &[u32; 65], k: usize) -> u32
-    requires few { (length cycle.now ≤ 32) × (k ≤ length cycle.now) }
-    requires frames { FrameCycle cycle.now }
-    requires summed { (i : ℕ) → i < 2 * length cycle.now + 1 → slice_index sums.now i ≡ run cycle.now 0 i }
-    ensures { result ≡ cycle_work cycle.now k }
-{
-    let mut most = 0;
-    for p in 0..cycle.len() {
-        most = (sums[p + k] - sums[p]).max(most);
-    }
-    most
-}
-
-// The largest sums of 0 to all of the lengths.
-fn largest_runs(cycle: &[u32]) -> [u32; 33]
-    requires few { length cycle.now ≤ 32 }
-    requires frames { FrameCycle cycle.now }
-    ensures { (k : ℕ) → k < length cycle.now + 1 → slice_index result k ≡ cycle_work cycle.now k }
-{
-    let sums = running_sums(cycle);
-    let mut most = [0; 33];
-    for k in 0..cycle.len() + 1 {
-        most[k] = largest_run(cycle, &sums, k);
-    }
-    most
+    ghost regular: { (1 ≤ period) × (period ≤ 1000000) },
+    ghost sums: { (k : ℕ) → k < length (lengths_of lengths) + 1 → slice_index most k ≡ cycle_work (lengths_of lengths) k },
 }
 
 impl Cycle {
-    // The cycle of the first size lengths.
-    pub(crate) fn new(lengths: [u32; 32], size: usize) -> Cycle
-        requires few { size ≤ 32 }
-        requires frames { FrameCycle (take size lengths) }
-        ensures { (result.size ≡ size) × (result.lengths ≡ lengths) }
+    pub(crate) fn new(period: u32, lengths: Lengths) -> Cycle
+        requires { (1 ≤ period) × (period ≤ 1000000) }
+        ensures { (result.period ≡ period) × (result.lengths ≡ lengths) }
     {
-        let most = largest_runs(&lengths[0..size]);
+        let most = lengths.largest_runs();
         Cycle {
-            size,
+            period,
             lengths,
             most,
         }
     }
 
-    // The largest sum of k successive lengths, going round.
-    pub(crate) fn work(&self, k: u32) -> u32
-        requires { k ≤ 2000001 }
-        ensures { result ≡ cycle_work (take self.now.size self.now.lengths) k }
+    // The least time from an arrival to the q-th after it.
+    pub(crate) fn gap(&self, q: u32) -> u32
+        ensures { result ≡ gap_answer (cyclic_gap self.now.period (argument q)) }
     {
-        let size = self.size as u32;
-        let rest = (k % size) as usize;
-        k / size * self.most[self.size] + self.most[rest]
+        gap_answer(u64::from(argument(q)) * u64::from(self.period))
+    }
+
+    // The most bit times that k successive frames take.
+    pub(crate) fn work(&self, k: u32) -> u32
+        ensures { result ≡ cycle_work (lengths_of self.now.lengths) (argument k) }
+    {
+        self.largest_sum(argument(k))
+    }
+
+    // The largest sum of k successive lengths, going round.
+    fn largest_sum(&self, k: u32) -> u32
+        requires { k ≤ 2000001 }
+        ensures { result ≡ cycle_work (lengths_of self.now.lengths) k }
+    {
+        let size = self.lengths.as_slice().len();
+        let rest = k % size as u32;
+        k / size as u32 * self.most[size] + self.most[rest as usize]
+    }
+
+    // The number of periods that begin within a time.
+    pub(crate) fn count(&self, x: u32) -> u32
+        ensures { result ≡ (argument x + (self.now.period - 1)) / self.now.period }
+    {
+        argument(x).div_ceil(self.period)
     }
 }

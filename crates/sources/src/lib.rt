@@ -6,8 +6,12 @@ mod cycle;
 mod cyclic;
 mod fault;
 mod held_up;
+mod lengths;
+mod limits;
 mod payloads;
+mod runs;
 mod source;
+mod volley;
 
 pub use burst::Burst;
 pub use cyclic::Cyclic;
