@@ -1,35 +1,14 @@
 -- What the loads are as the calls of the sources answer them. Assumes nothing.
-use Rattle.std.proofs.Common.{◌≡◌, ℕ, ◌+◌, ◌≤◌, min, List, [], ◌∷◌, map, refl, ap, ◌∙◌, ap₂, arith}
+use Rattle.std.proofs.Common.{◌≡◌, ℕ, ◌+◌, ◌<◌, ◌≤◌, min, max, List, [], ◌∷◌, refl, ap, ◌∙◌, ap₂, arith}
+use Rattle.std.specs.List.{fold}
 use Rattle.sources.specs.Streams.{Model, Laws}
 use Rattle.sources.specs.Counts.{count, argument, jitter_answer}
 use Rattle.sources.specs.CountsLemmas.{count_le}
-use Rattle.sources.specs.Models.{model}
-use Rattle.sources.specs.declared.source.Source as source
+use Rattle.sources.specs.Models.{model, Meanings}
 use Rattle.response.specs.declared.listed.Listed as listed
-use Rattle.response.specs.Searches.{horizon, NeverFalls}
-use Rattle.response.specs.Bounds.{AllLawful, load, loads}
-use Rattle.response.specs.Curves.{answerable, models, SmallJitters, load_answer, loads_answer, busy_answer, delay_answer}
-use Rattle.response.proofs.CurveLaws.{load_never_falls, loads_never_falls}
-
--- A source that answers its jitter keeps the laws, with no traffic to look at.
-pub answerable_lawful : (m : Model) → Laws m → Laws (answerable m)
-answerable_lawful m laws = record {
-  gap_zero = laws.gap_zero;
-  gap_never_falls = laws.gap_never_falls;
-  gap_at_least = laws.gap_at_least;
-  work_zero = laws.work_zero;
-  work_rises = laws.work_rises;
-  work_at_most = laws.work_at_most;
-  keeps_gap = λ s sent. absurd sent;
-  keeps_work = λ s sent. absurd sent;
-  keeps_jitter = λ s sent. absurd sent;
-  keeps_order = λ s sent. absurd sent;
-  takes_time = λ s sent. absurd sent;
-}
-
-pub all_answerable : (ms : List Model) → AllLawful ms → AllLawful (map answerable ms)
-all_answerable [] laws = tt
-all_answerable (m ∷ ms) (first, rest) = (answerable_lawful m first, all_answerable ms rest)
+use Rattle.response.specs.Searches.{horizon}
+use Rattle.response.specs.Bounds.{longest_of, load, loads}
+use Rattle.response.specs.Curves.{models, SmallJitters, load_answer, loads_answer}
 
 module _ (m : Model) (laws : Laws m) where
   -- No more instances are counted than bit times.
@@ -45,26 +24,27 @@ module _ (m : Model) (laws : Laws m) where
       let few : argument number ≡ number = omega (arith, counted (argument within)) in
       r ∙ ap m.work (few ∙ counts)
 
-  -- A load fits 32 bits.
-  pub load_small : (t : ℕ) → load_answer m t ≤ 320000160
-  load_small t =
-      omega (arith, laws.work_at_most (count m.gap (min t horizon + jitter_answer m.jitter)), counted (min t horizon + jitter_answer m.jitter))
+-- The longest frame of rows, as the larger of a number and each row's frame in turn.
+longest_after : {L S : Type 0} (rows : listed.Ghosts L S) (sources : Meanings S) (ls : List L) (n : ℕ) →
+    fold (λ a l. max a (sources.work (rows.source l) 1)) n ls ≡ max n (longest_of (models rows sources ls))
+longest_after rows sources [] n = omega arith
+longest_after rows sources (l ∷ ls) n = omega (arith, longest_after rows sources ls (max n (sources.work (rows.source l) 1)))
 
--- Where every source keeps the laws, so do the models of listed rows.
-pub models_lawful : {L S : Type 0} (rows : listed.Ghosts L S) (sources : source.Ghosts S) → ((s : S) → Laws (model sources s)) → (ls : List L) → AllLawful (models rows sources ls)
-models_lawful rows sources lawful [] = tt
-models_lawful rows sources lawful (l ∷ ls) = (lawful (rows.source l), models_lawful rows sources lawful ls)
+pub longest_folded : {L S : Type 0} (rows : listed.Ghosts L S) (sources : Meanings S) (ls : List L) (r : ℕ) →
+    r ≡ fold (λ a l. max a (sources.work (rows.source l) 1)) 0 ls → r ≡ longest_of (models rows sources ls)
+longest_folded rows sources ls r is = omega (arith, longest_after rows sources ls 0)
 
--- The loads as they are answered never fall.
-pub loads_answer_rises : (ms : List Model) → AllLawful ms → NeverFalls (loads_answer ms)
-loads_answer_rises ms laws s t l = loads_never_falls (map answerable ms) (all_answerable ms laws) (min s horizon) (min t horizon) (omega arith)
+-- The loads of rows, added to a number in turn up to the largest that fits 32 bits.
+loads_after : {L S : Type 0} (rows : listed.Ghosts L S) (sources : Meanings S) (ls : List L) (t n : ℕ) → n ≤ 4294967295 →
+    fold (λ a l. min (a + load_answer (model sources (rows.source l)) t) 4294967295) n ls ≡ min (n + loads_answer (models rows sources ls) t) 4294967295
+loads_after rows sources [] t n fits = omega arith
+loads_after rows sources (l ∷ ls) t n fits =
+    omega (arith, loads_after rows sources ls t (min (n + load_answer (model sources (rows.source l)) t) 4294967295) (omega arith))
 
-pub busy_answer_rises : (above : List Model) → AllLawful above → (own : Model) → Laws own → (blocking : ℕ) → NeverFalls (busy_answer above own blocking)
-busy_answer_rises above upper own laws blocking s t l =
-    omega (arith, load_never_falls (answerable own) (answerable_lawful own laws) (min s horizon) (min t horizon) (omega arith), loads_answer_rises above upper s t l)
-
-pub delay_answer_rises : (above : List Model) → AllLawful above → (held : ℕ) → NeverFalls (delay_answer above held)
-delay_answer_rises above upper held s t l = omega (arith, loads_answer_rises above upper (s + 1) (t + 1) (omega arith))
+pub loads_folded : {L S : Type 0} (rows : listed.Ghosts L S) (sources : Meanings S) (ls : List L) (t held sum r : ℕ) → held < 4294967296 →
+    sum ≡ fold (λ a l. min (a + load_answer (model sources (rows.source l)) t) 4294967295) held ls →
+    r ≡ min sum 1000001 → r ≡ min (held + loads_answer (models rows sources ls) t) 1000001
+loads_folded rows sources ls t held sum r fits is last = omega (arith, loads_after rows sources ls t held (omega arith))
 
 -- Where no jitter is above the horizon, the loads are as they are meant, for times up to the horizon.
 pub load_exact : (m : Model) → m.jitter ≤ horizon → (t : ℕ) → t ≤ horizon → load_answer m t ≡ load m t

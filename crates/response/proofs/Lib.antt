@@ -8,6 +8,5 @@ pub mod Queued
 pub mod Windows
 pub mod Runs
 pub mod AnswerLaws
-pub mod RowChecks
 pub mod Judging
 pub mod Responding

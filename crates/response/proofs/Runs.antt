@@ -6,9 +6,10 @@ use Rattle.sources.specs.RangesLemmas.{sum_from_le, sum_from_last, largest_is_up
 use Rattle.response.specs.Bounds.{longest_of, load, loads, busy, delay, instances, delay_search, candidate, bound, row, place}
 use Rattle.response.specs.Searches.{value_of}
 use Rattle.response.specs.Runs.{Run, Lawful, Has, instance_of, NoLater}
+use Rattle.response.specs.CurveLemmas.{loads_never_falls}
 use Rattle.response.proofs.Sums.{sum_from_lt, sum_from_more}
 use Rattle.response.proofs.Finds.{all_or_some, last_upto}
-use Rattle.response.proofs.CurveLaws.{all_lawful, take_lawful, loads_never_falls}
+use Rattle.response.proofs.CurveLaws.{all_lawful, take_have}
 use Rattle.response.proofs.Rows.{loads_sum}
 use Rattle.response.proofs.Queued.{others_late, late_not_counted, piece_arrives, piece_counted}
 use Rattle.response.proofs.Windows.{before, end_of, row_overlap, Quiet, Unended, Window, in_order, rest_of_window, upper_bits, upper_load, upper_load_less}
@@ -154,7 +155,7 @@ module _ {rows : List Model} {run : Run} {m i a : ℕ} (lawful : (k : ℕ) → k
       let queued : a ≤ run.start m i = omega (arith, opens.not_after, ok.queued_first m i (here, have)) in
       let own = (lawful m here).keeps_work (run.stream m) (ok.sent m here) (before run m a) (suc (turn run m i a)) (omega (arith, its_place)) in
       let last = rw its_place at (sum_from_last (λ j. (instance_of run m j).bits) (before run m a) (turn run m i a)) in
-      omega (arith, before_start (run.start m i - a) (omega arith), loads_never_falls (take m rows) (take_lawful m rows (all_lawful rows lawful)) (run.start m i - a) (w + 1) (omega arith))
+      omega (arith, before_start (run.start m i - a) (omega arith), loads_never_falls (take m rows) (take_have Laws m rows (all_lawful rows lawful)) (run.start m i - a) (w + 1) (omega arith))
 
 -- Where the busy period of row m ends at t, each of its instances q has the delay w q, and none of them can take longer than b, no instance
 -- of the row takes longer than b in any lawful run.

@@ -1,7 +1,9 @@
 -- What a search comes to on a curve that never falls. Assumes nothing.
-use Rattle.std.proofs.Common.{◌≡◌, ℕ, zero, suc, ◌+◌, ◌-◌, ◌<◌, ◌≤◌, Bool, true, false, eqb, ltb, refl, ap, ⊎_elim, arith}
+use Rattle.std.proofs.Common.{◌≡◌, ℕ, zero, suc, ◌+◌, ◌-◌, ◌<◌, ◌≤◌, min, Bool, true, false, eqb, ltb, refl, sym, ap, ◌∙◌, ⊎_elim, arith}
+use Rattle.std.specs.declared.ops.ControlFlow.{ControlFlow}
+use Rattle.std.specs.declared.ops.ControlFlow.TheVariants.{Continue, Break}
 use Rattle.std.proofs.lemmas.Bool.{cases_lt, ltb-true, ltb-false, eqb-true, eqb-false}
-use Rattle.response.specs.Searches.{Found, ended, failed, one_more, Searches, passes, stands, goes_on, horizon, Step, past, fixed, onward, next_step, search_within, fixed_point, rounds_of, NeverFalls, FindsLeast}
+use Rattle.response.specs.Searches.{Found, ended, failed, one_more, Searches, passes, stands, goes_on, horizon, next_step, search_within, fixed_point, rounds_of, NeverFalls, FindsLeast}
 
 -- The outcome is the least value at or above x, within the horizon, that the curve does not pass, or a failure where there is none.
 abbrev pub Least : (ℕ → ℕ) → ℕ → Found → Type 0
@@ -29,24 +31,6 @@ one_outcome (goes_on within other next) (goes_on within' other' next') = ap one_
 pub one_more_rounds : (o : Found) → rounds_of (one_more o) ≡ suc (rounds_of o)
 one_more_rounds (ended p rounds) = refl
 one_more_rounds (failed rounds) = refl
-
--- The step by its two tests: the answer is past the horizon, it is the value.
-abbrev step_by : Bool → Bool → Step
-step_by over same = elim over [ true ↦ past | false ↦ elim same [ true ↦ fixed | false ↦ onward ] ]
-
--- What a step says of the value and the answer.
-abbrev pub Said : ℕ → ℕ → Step → Type 0
-Said x y past = horizon < y
-Said x y fixed = (y ≤ horizon) × (y ≡ x)
-Said x y onward = (y ≤ horizon) × (y ≡ x → ⊥)
-
-pub said : (x y : ℕ) (s : Step) → s ≡ next_step x y → Said x y s
-said x y s is = rw is (go (ltb horizon y) refl (eqb y x) refl)
-  where
-    go : (b : Bool) → ltb horizon y ≡ b → (c : Bool) → eqb y x ≡ c → Said x y (step_by b c)
-    go true over c e = ltb-true horizon y over
-    go false within true same = (ltb-false horizon y within, eqb-true y x same)
-    go false within false other = (ltb-false horizon y within, eqb-false y x other)
 
 -- One evaluation of the bounded search.
 evaluated : (f : ℕ → ℕ) (n x : ℕ) → (f x ≤ horizon → (f x ≡ x → ⊥) → Searches f (f x) (search_within n f (f x))) → Searches f x (search_within (suc n) f x)
@@ -177,10 +161,30 @@ pub more_one : (n : ℕ) (o : Found) → more n (one_more o) ≡ more (n + 1) o
 more_one n (ended value rounds) = ap (ended value) (omega arith)
 more_one n (failed rounds) = ap failed (omega arith)
 
-pub more_none : (o : Found) → more 0 o ≡ o
-more_none (ended value rounds) = ap (ended value) (omega arith)
-more_none (failed rounds) = ap failed (omega arith)
-
 pub more_rounds : (n : ℕ) (o : Found) → rounds_of (more n o) ≡ n + rounds_of o
 more_rounds n (ended value rounds) = refl
 more_rounds n (failed rounds) = refl
+
+-- What a step of a search at value x comes to after n evaluations: the search is over and has this outcome, or it goes on from z, with
+-- fewer evaluations to come.
+abbrev pub Took : (ℕ → ℕ) → ℕ → ℕ → ControlFlow Found ℕ → Type 0
+Took f x n (Break o) = o ≡ more n (fixed_point f x)
+Took f x n (Continue z) = (more n (fixed_point f x) ≡ more (n + 1) (fixed_point f z)) × (rounds_of (fixed_point f z) < rounds_of (fixed_point f x))
+
+-- Each step of the search of a curve that never falls is made towards its outcome.
+pub took : (f : ℕ → ℕ) → NeverFalls f → (x n y : ℕ) → y ≡ min (f x) 1000001 → (s : ControlFlow Found ℕ) → s ≡ next_step x y (n + 1) → Took f x n s
+took f falls_not x n y is s step = rw step (go (ltb horizon y) refl (eqb y x) refl)
+  where
+    go : (b : Bool) → ltb horizon y ≡ b → (c : Bool) → eqb y x ≡ c →
+        Took f x n (elim b [ true ↦ Break (failed (n + 1)) | false ↦ elim c [ true ↦ Break (ended x (n + 1)) | false ↦ Continue y ] ])
+    go true over c e = let past = ltb-true horizon y over in ap (more n) (sym (fails_at_once f falls_not x (omega arith)))
+    go false within true same =
+        let inside = ltb-false horizon y within in
+        let stays = eqb-true y x same in
+        ap (more n) (sym (ends_at_once f falls_not x (omega arith) (omega arith)))
+    go false within false other =
+        let inside = ltb-false horizon y within in
+        let moves = eqb-false y x other in
+        let answer : f x ≡ y = omega arith in
+        let next : fixed_point f x ≡ one_more (fixed_point f y) = goes_on_from f falls_not x (omega arith) (λ e. moves (omega arith)) ∙ ap (λ v. one_more (fixed_point f v)) answer in
+        (ap (more n) next ∙ more_one n (fixed_point f y), omega (arith, ap rounds_of next, one_more_rounds (fixed_point f y)))

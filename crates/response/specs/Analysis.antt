@@ -1,5 +1,5 @@
 -- What the analysis of one row among listed rows answers, and what its answer says.
-use Rattle.std.specs.Prelude.{◌≡◌, ℕ, ◌+◌, ◌<◌, ◌≤◌, Bool, List, [], ◌∷◌, length, nat_le, nat_lt, slice_index}
+use Rattle.std.specs.Prelude.{◌≡◌, ℕ, ◌+◌, ◌<◌, ◌≤◌, Bool, List, [], ◌∷◌, ◌++◌, length, nat_le, nat_lt, slice_index}
 use Rattle.sources.specs.Streams.{Model}
 use Rattle.sources.specs.Answers.{Answer, made, refused, checked, outside}
 use Rattle.response.specs.Searches.{ended, horizon}
@@ -14,11 +14,11 @@ own_checks m deadline = (outside 1 horizon deadline, 21) ∷ (nat_lt horizon m.j
 abbrev pub row_answer : Model → ℕ → Answer (Unit {0})
 row_answer m deadline = checked (own_checks m deadline) (tt {0})
 
--- Each row in its order: 21 deadline not 1 to 1,000,000, 22 jitter above 1,000,000.
+-- The checks of each row, in the order of the rows.
 abbrev pub row_checks : List Model → List ℕ → List (Bool × ℕ)
 row_checks [] deadlines = []
 row_checks (m ∷ ms) [] = []
-row_checks (m ∷ ms) (d ∷ ds) = (outside 1 horizon d, 21) ∷ (nat_lt horizon m.jitter, 22) ∷ row_checks ms ds
+row_checks (m ∷ ms) (d ∷ ds) = own_checks m d ++ row_checks ms ds
 
 -- The first number of the rows' checks, if any.
 abbrev pub rows_answer : List Model → List ℕ → Answer (Unit {0})
@@ -34,7 +34,7 @@ place_answer rows m = checked (place_checks rows m) (tt {0})
 
 -- The answer for row m: 25 where there is no such row, then the first number of the rows' checks, and otherwise the response.
 abbrev pub response_answer : List Model → List ℕ → ℕ → Answer Response
-response_answer rows deadlines m = checked ((nat_le (length rows) m, 25) ∷ row_checks rows deadlines) (response (place rows m) (slice_index deadlines m))
+response_answer rows deadlines m = checked (place_checks (length rows) m ++ row_checks rows deadlines) (response (place rows m) (slice_index deadlines m))
 
 -- The busy period of a row ends within the horizon, and every delay search of its instances ends.
 pub record Ends (p : Place) : Type 0 where

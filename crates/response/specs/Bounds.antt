@@ -5,10 +5,14 @@ use Rattle.sources.specs.Streams.{Model, Laws}
 use Rattle.sources.specs.Counts.{count}
 use Rattle.response.specs.Searches.{Found, ended, failed, horizon, fixed_point, value_of, rounds_of}
 
+-- Each row has a property.
+abbrev pub Each : (Model → Type 0) → List Model → Type 0
+Each P [] = Unit {0}
+Each P (m ∷ ms) = P m × Each P ms
+
 -- Every row keeps what a source owes.
 abbrev pub AllLawful : List Model → Type 0
-AllLawful [] = Unit {0}
-AllLawful (m ∷ ms) = Laws m × AllLawful ms
+AllLawful rows = Each Laws rows
 
 -- The longest frame of rows: the largest work(1) among them, or 0.
 abbrev pub longest_of : List Model → ℕ

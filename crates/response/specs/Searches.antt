@@ -1,5 +1,7 @@
 -- The search for a fixed point of a curve.
 use Rattle.std.specs.Prelude.{◌≡◌, ℕ, zero, suc, ◌+◌, ◌<◌, ◌≤◌, true, false, ◌==◌, ◌≢◌, nat_lt}
+use Rattle.std.specs.declared.ops.ControlFlow.{ControlFlow}
+use Rattle.std.specs.declared.ops.ControlFlow.TheVariants.{Continue, Break}
 
 -- No search goes past this time.
 abbrev pub horizon : ℕ
@@ -22,13 +24,13 @@ pub data Searches (f : ℕ → ℕ) : ℕ → Found → Type 0 where
   stands : {x : ℕ} → f x ≤ horizon → f x ≡ x → Searches f x (ended x 1)
   goes_on : {x : ℕ} {o : Found} → f x ≤ horizon → (f x ≢ x) → Searches f (f x) o → Searches f x (one_more o)
 
--- What one evaluation comes to: its answer is past the horizon, it is the value itself, or it is the next value.
-pub data Step : Type 0 where
-  past fixed onward : Step
-
--- The step of a search at value x, where the curve gave y.
-abbrev pub next_step : ℕ → ℕ → Step
-next_step x y = elim (nat_lt horizon y) [ true ↦ past | false ↦ elim (y == x) [ true ↦ fixed | false ↦ onward ] ]
+-- The step of a search at value x, where the curve gave y and n evaluations were made: it fails, it ends at x, or it goes on from y.
+abbrev pub next_step : ℕ → ℕ → ℕ → ControlFlow Found ℕ
+next_step x y n =
+    elim (nat_lt horizon y) [
+      | true ↦ Break (failed n)
+      | false ↦ elim (y == x) [ true ↦ Break (ended x n) | false ↦ Continue y ]
+    ]
 
 -- The search as a function that makes at most the given number of evaluations.
 abbrev pub search_within : ℕ → (ℕ → ℕ) → ℕ → Found

@@ -1,12 +1,15 @@
 // The two curves of the analysis: how long a busy period lasts, and how long an instance waits.
 ghost use Rattle.std.specs.Prelude.{◌≡◌, ℕ, ◌+◌, min};
 ghost use Rattle.sources.specs.Counts.{jitter_answer};
-ghost use Rattle.sources.specs.Models.{model};
+ghost use Rattle.sources.specs.Models.{model, meanings};
 ghost use Rattle.response.specs.Searches.{horizon};
 ghost use Rattle.response.specs.Curves.{models, load_answer, loads_answer, busy_answer, delay_answer};
+ghost use Rattle.response.specs.CurveLemmas.{busy_rises, delay_rises};
+ghost use Rattle.response.specs.Views.{seen};
 
 use crate::fixed_point::{Curve, HORIZON};
 use crate::listed::Listed;
+use crate::place::Place;
 use sources::Source;
 
 // The time within which instances arrive that a source can queue within t.
@@ -18,67 +21,55 @@ fn reach<S: Source>(source: &S, t: u32) -> u32
 
 // The most bit times of the instances that a source can queue within t.
 fn load<S: Source>(source: &S, t: u32) -> u32
-    ensures { result ≡ load_answer (model S.Source.own source.now) t }
+    ensures { result ≡ load_answer (model S.Source source.now) t }
 {
     source.work(source.count(reach(source, t)))
 }
 
-// What is held already and the loads of the rows within t, added up until they pass the horizon.
+// What is held already and the loads of the rows within t, or 1,000,001 where that is more.
+#[tactic(auto, using(crate::proofs::AnswerLaws::loads_folded))]
 fn add_loads<L: Listed<Of = S>, S: Source>(held: u32, rows: &[L], t: u32) -> u32
-    ensures { result ≡ min (held + loads_answer (models L.Listed S.Source.own rows.now) t) 1000001 }
+    ensures { result ≡ min (held + loads_answer (models L.Listed S.Source rows.now) t) 1000001 }
 {
-    let mut sum = held;
-    for row in rows {
-        if sum > HORIZON {
-            return HORIZON + 1;
-        }
-        sum += load(row.source(), t);
-    }
-    sum.min(HORIZON + 1)
+    rows.iter()
+        .fold(held, |sum, row| sum.saturating_add(load(row.source(), t)))
+        .min(HORIZON + 1)
 }
 
-// The most that the bus is held within x from the start of a busy period: by a frame below, by the row itself and by the rows above it.
-fn busy_value<L: Listed<Of = S>, S: Source>(above: &[L], own: &S, blocking: u32, x: u32) -> u32
-    ensures { result ≡ min (busy_answer (models L.Listed S.Source.own above.now) (model S.Source.own own.now) blocking x) 1000001 }
-{
-    let held = blocking.min(HORIZON + 1).saturating_add(load(own, x));
-    add_loads(held, above, x)
-}
-
-// The most that the bus is held before an instance starts that has not started by x: by what holds it in any case, and by the rows above.
-fn delay_value<L: Listed<Of = S>, S: Source>(above: &[L], held: u32, x: u32) -> u32
-    ensures { result ≡ min (delay_answer (models L.Listed S.Source.own above.now) held x) 1000001 }
-{
-    add_loads(held, above, x.saturating_add(1))
-}
-
-// The busy curve of a row.
+// The busy curve of a row: the most that the bus is held within x from the start of a busy period, by a frame below, by the row itself
+// and by the rows above it.
 #[derive(Drop)]
-pub(crate) struct Busy<'a, L> {
-    pub(crate) above: &'a [L],
-    pub(crate) own: &'a L,
-    pub(crate) blocking: u32,
+pub(crate) struct Busy<'p, 'a, L> {
+    pub(crate) place: &'p Place<'a, L>,
 }
 
-impl<'a, L: Listed<Of = S>, S: Source> Curve for Busy<'a, L> {
-    ghost curve = { λ c. busy_answer (models L.Listed S.Source.own c.above.now) (model S.Source.own (L.Listed.source c.own.now)) c.blocking };
+impl<L: Listed<Of = S>, S: Source> Curve for Busy<'_, '_, L> {
+    ghost curve = { λ c. busy_answer (seen L.Listed S.Source c.place.now) };
+
+    // In a law `S.Source` is the trait's own record, so the two are joined here.
+    ghost rising = { λ c. busy_rises L.Listed (meanings S.Entry S.Source.own) S.Source.lawful c.place.now };
 
     fn value(&self, x: u32) -> u32 {
-        busy_value(self.above, self.own.source(), self.blocking, x)
+        let place = self.place;
+        let held = place.blocking.saturating_add(load(place.own.source(), x));
+        add_loads(held, place.above, x)
     }
 }
 
-// The delay curve of an instance before which the bus is held in any case by a frame below and by earlier instances.
+// The delay curve of an instance of a row: the most that the bus is held before it starts if it has not started by x, by what holds it in
+// any case and by the rows above.
 #[derive(Drop)]
-pub(crate) struct Delay<'a, L> {
-    pub(crate) above: &'a [L],
+pub(crate) struct Delay<'p, 'a, L> {
+    pub(crate) place: &'p Place<'a, L>,
     pub(crate) held: u32,
 }
 
-impl<'a, L: Listed<Of = S>, S: Source> Curve for Delay<'a, L> {
-    ghost curve = { λ c. delay_answer (models L.Listed S.Source.own c.above.now) c.held };
+impl<L: Listed<Of = S>, S: Source> Curve for Delay<'_, '_, L> {
+    ghost curve = { λ c. delay_answer (seen L.Listed S.Source c.place.now) c.held };
+
+    ghost rising = { λ c. delay_rises L.Listed (meanings S.Entry S.Source.own) S.Source.lawful c.place.now c.held };
 
     fn value(&self, x: u32) -> u32 {
-        delay_value(self.above, self.held, x)
+        add_loads(self.held, self.place.above, x.saturating_add(1))
     }
 }

@@ -3,6 +3,8 @@ ghost use Rattle.std.specs.Prelude.{◌≡◌, ℕ, ◌≤◌, min};
 ghost use Rattle.response.specs.Searches.{NeverFalls, Searches, next_step, fixed_point, FindsLeast, value_of, rounds_of};
 ghost use Rattle.response.specs.Views.{found_of, step_of};
 
+use std::ops::ControlFlow;
+
 // The time past which no search goes.
 pub const HORIZON: u32 = 1_000_000;
 
@@ -10,17 +12,18 @@ pub const HORIZON: u32 = 1_000_000;
 pub trait Curve {
     ghost curve: { Self → ℕ → ℕ };
 
-    // The curve's value at x; one past the horizon is answered as 1,000,001. The curve never falls.
+    // The curve's value at x; one past the horizon is answered as 1,000,001.
     fn value(&self, x: u32) -> u32
-        ensures answer { result ≡ min (curve self.now x) 1000001 }
-        ensures rising { NeverFalls (curve self.now) };
+        ensures answer { result ≡ min (curve self.now x) 1000001 };
+
+    ghost rising: { (c : Self) → NeverFalls (curve c) };
 }
 
-// How a search came out, with the number of evaluations that it made.
-#[derive(Clone, Copy)]
-pub enum Found {
-    Ended { value: u32, rounds: u32 },
-    Failed { rounds: u32 },
+// Where a search ended, if it did, and how many evaluations it made.
+#[derive(Clone, Copy, PartialEq, Eq, Debug)]
+pub struct Found {
+    pub end: Option<u32>,
+    pub rounds: u32,
 }
 
 impl Found {
@@ -28,39 +31,30 @@ impl Found {
     pub fn value(&self) -> u32
         ensures { result ≡ value_of (found_of self.now) }
     {
-        match *self {
-            Found::Ended { value, .. } => value,
-            Found::Failed { .. } => 0,
-        }
+        self.end.unwrap_or(0)
     }
 
     // How many evaluations the search made.
     pub fn rounds(&self) -> u32
         ensures { result ≡ rounds_of (found_of self.now) }
     {
-        match *self {
-            Found::Ended { rounds, .. } | Found::Failed { rounds } => rounds,
-        }
+        self.rounds
     }
 }
 
-// What one evaluation comes to: its answer is past the horizon, it is the value itself, or it is the next value.
-enum Step {
-    Past,
-    Fixed,
-    Onward,
-}
-
-// The step of a search at a value, from the curve's answer there.
-fn next_step(value: u32, answer: u32) -> Step
-    ensures { step_of result ≡ next_step value answer }
+// The step of a search at a value, from the curve's answer there and the evaluations made: it is over, or it goes on from the answer.
+fn next_step(value: u32, answer: u32, rounds: u32) -> ControlFlow<Found, u32>
+    ensures { step_of result ≡ next_step value answer rounds }
 {
     if answer > HORIZON {
-        Step::Past
+        ControlFlow::Break(Found { end: None, rounds })
     } else if answer == value {
-        Step::Fixed
+        ControlFlow::Break(Found {
+            end: Some(value),
+            rounds,
+        })
     } else {
-        Step::Onward
+        ControlFlow::Continue(answer)
     }
 }
 
@@ -76,10 +70,9 @@ pub fn search<C: Curve>(on: &C, start: u32) -> Found
     loop {
         let answer = on.value(value);
         rounds += 1;
-        match next_step(value, answer) {
-            Step::Past => return Found::Failed { rounds },
-            Step::Fixed => return Found::Ended { value, rounds },
-            Step::Onward => value = answer,
+        match next_step(value, answer, rounds) {
+            ControlFlow::Break(found) => return found,
+            ControlFlow::Continue(next) => value = next,
         }
     }
 }

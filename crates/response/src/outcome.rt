@@ -1,7 +1,11 @@
 // What the analysis answers of a row.
-ghost use Rattle.std.specs.Prelude.{◌≡◌};
+ghost use Rattle.std.specs.Prelude.{◌≡◌, Some};
 ghost use Rattle.response.specs.Views.{fault_number, outcome_of, verdict_of};
 ghost use Rattle.response.specs.Bounds.{bound_of, response_rounds, verdict};
+ghost use Rattle.response.specs.Words.{fault_word, verdict_word};
+
+use std::error::Error;
+use std::fmt;
 
 // ok: the bound is at most the deadline. late: it is above. none: there is no bound.
 #[derive(Clone, Copy, PartialEq, Eq, Debug)]
@@ -9,6 +13,18 @@ pub enum Verdict {
     Ok,
     Late,
     None,
+}
+
+impl fmt::Display for Verdict {
+    ghost output = { λ v. Some (verdict_word (verdict_of v)) };
+
+    fn fmt<W: fmt::Write>(&self, f: &mut fmt::Formatter<W>) -> fmt::Result {
+        f.write_str(match self {
+            Verdict::Ok => "ok",
+            Verdict::Late => "late",
+            Verdict::None => "none",
+        })
+    }
 }
 
 // The verdict on a row, with its bound, if it has one, and the evaluations that its searches made.
@@ -54,16 +70,13 @@ impl Outcome {
 // Why the analysis gave no answer.
 #[derive(Clone, Copy, PartialEq, Eq, Debug)]
 pub enum ResponseFault {
-    // A row's deadline is not 1 to 1,000,000.
     Deadline,
-    // A row's jitter is above 1,000,000.
     Jitter,
-    // There is no row at the place.
     Row,
 }
 
 impl ResponseFault {
-    // The refusal's number.
+    // The refusal's number, by a match: the contract pins each.
     pub fn number(self) -> u8
         ensures { result ≡ fault_number self }
     {
@@ -74,3 +87,17 @@ impl ResponseFault {
         }
     }
 }
+
+impl fmt::Display for ResponseFault {
+    ghost output = { λ f. Some (fault_word f) };
+
+    fn fmt<W: fmt::Write>(&self, f: &mut fmt::Formatter<W>) -> fmt::Result {
+        f.write_str(match self {
+            ResponseFault::Deadline => "a deadline is not 1 to 1,000,000",
+            ResponseFault::Jitter => "a jitter is above 1,000,000",
+            ResponseFault::Row => "there is no such row",
+        })
+    }
+}
+
+impl Error for ResponseFault {}
