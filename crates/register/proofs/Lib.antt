@@ -11,6 +11,7 @@ pub mod Promised
 pub mod MoveLaws
 pub mod FindLaws
 pub mod UnsettleLaws
+pub mod ChangeLaws
 pub mod MemoryLaws
 pub mod CallAnswers
 pub mod SettleAnswers

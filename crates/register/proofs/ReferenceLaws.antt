@@ -3,10 +3,8 @@ use Rattle.std.proofs.Common.{◌≡◌, ℕ, zero, suc, max, Bool, true, false,
 use mathlib.Core.List.{map-append, map-map}
 use Rattle.std.proofs.lemmas.List.{take-map, drop-map, length-map}
 use Rattle.std.proofs.lemmas.Bool.{le-ltb, false≢true}
-use Rattle.sources.specs.Models.{model}
+use Rattle.sources.specs.Models.{model, Meanings}
 use Rattle.sources.specs.Answers.{Answer, made, refused, checked, outside}
-use Rattle.sources.specs.declared.source.Entry as entry
-use Rattle.sources.specs.declared.source.Source as source
 use Rattle.sources.proofs.AnswerChecks.{NoFault, checked_made, inside}
 use Rattle.response.specs.declared.outcome.Outcome.{Outcome}
 use Rattle.response.specs.Searches.{horizon}
@@ -83,59 +81,59 @@ module _ {A B : Type 0} (f : A → B) where
         ∙ sym (map-append f (unsettle_above frame g (take place rows) (longest frame (drop place rows)) (longest frame after)) (map g after))
 
 -- Enter, amend and withdraw on rows of two kinds, where those of one become those of the other.
-module _ {S A B : Type 0} (names : entry.Ghosts S) (sources : source.Ghosts S) (one : Kind S A) (two : Kind S B) (f : A → B)
+module _ {S A B : Type 0} (sources : Meanings S) (one : Kind S A) (two : Kind S B) (f : A → B)
     (same_source : (a : A) → two.source (f a) ≡ one.source a) (same_fresh : (s : S) (d : ℕ) → two.fresh s d ≡ f (one.fresh s d))
     (same_unsettled : (a : A) → two.unsettled (f a) ≡ f (one.unsettled a)) (rows : List A) where
-  same_identifiers : map (identifier names sources two) (map f rows) ≡ map (identifier names sources one) rows
-  same_identifiers = map_through f (identifier names sources two) (identifier names sources one) (λ a. ap names.identifier (same_source a)) rows
+  same_identifiers : map (identifier sources two) (map f rows) ≡ map (identifier sources one) rows
+  same_identifiers = map_through f (identifier sources two) (identifier sources one) (λ a. ap sources.identifier (same_source a)) rows
 
   -- The other rows have the same places.
-  pub place_mapped : (id : ℕ) → place_in names sources two id (map f rows) ≡ place_in names sources one id rows
-  place_mapped id = same_place (identifier names sources two) (identifier names sources one) (map f rows) rows same_identifiers id
+  pub place_mapped : (id : ℕ) → place_in sources two id (map f rows) ≡ place_in sources one id rows
+  place_mapped id = same_place (identifier sources two) (identifier sources one) (map f rows) rows same_identifiers id
 
   -- The other rows have the same identifiers.
-  pub is_in_mapped : (id : ℕ) → is_in names sources two id (map f rows) ≡ is_in names sources one id rows
-  is_in_mapped id = same_has (identifier names sources two) (identifier names sources one) (map f rows) rows same_identifiers id
+  pub is_in_mapped : (id : ℕ) → is_in sources two id (map f rows) ≡ is_in sources one id rows
+  is_in_mapped id = same_has (identifier sources two) (identifier sources one) (map f rows) rows same_identifiers id
 
   become_mapped : (place other : ℕ) (after : List A) (others : List B) → other ≡ place → others ≡ map f after →
-      become names sources two other others (map f rows) ≡ map f (become names sources one place after rows)
+      become sources two other others (map f rows) ≡ map f (become sources one place after rows)
   become_mapped place other after others same_place same_after =
-      ap₂ (λ n bs. become names sources two n bs (map f rows)) same_place same_after
-      ∙ changed_mapped f (frame names sources one) (frame names sources two) (λ a. ap (λ s. sources.work s 1) (same_source a)) one.unsettled two.unsettled same_unsettled place after rows
+      ap₂ (λ n bs. become sources two n bs (map f rows)) same_place same_after
+      ∙ changed_mapped f (frame sources one) (frame sources two) (λ a. ap (λ s. sources.work s 1) (same_source a)) one.unsettled two.unsettled same_unsettled place after rows
 
   dropped : (place other : ℕ) → other ≡ place → drop other (map f rows) ≡ map f (drop place rows)
   dropped place other same = ap (λ n. drop n (map f rows)) same ∙ drop-map f place rows
 
   -- Enter answers on the other rows as on the rows.
-  pub enter_mapped : (places : ℕ) (s : S) (deadline : ℕ) → enter_rows names sources two places s deadline (map f rows) ≡ mapped (map f) (enter_rows names sources one places s deadline rows)
+  pub enter_mapped : (places : ℕ) (s : S) (deadline : ℕ) → enter_rows sources two places s deadline (map f rows) ≡ mapped (map f) (enter_rows sources one places s deadline rows)
   enter_mapped places s deadline =
-      let at : ℕ = place_in names sources one (names.identifier s) rows in
+      let at : ℕ = place_in sources one (sources.identifier s) rows in
       ap₂ checked
       (ap₂
       (λ b n. (outside 1 horizon deadline, 21) ∷ (ltb horizon (sources.jitter s), 22) ∷ (b, 23) ∷ (leb 256 n || leb places n, 24) ∷ [])
-      (is_in_mapped (names.identifier s)) (length-map rows f))
-      (become_mapped at _ (one.fresh s deadline ∷ drop at rows) _ (place_mapped (names.identifier s))
-      (ap₂ (λ b bs. b ∷ bs) (same_fresh s deadline) (dropped at _ (place_mapped (names.identifier s)))))
-      ∙ checked_mapped (map f) (enter_checks names sources one places s deadline rows) (become names sources one at (one.fresh s deadline ∷ drop at rows) rows)
+      (is_in_mapped (sources.identifier s)) (length-map rows f))
+      (become_mapped at _ (one.fresh s deadline ∷ drop at rows) _ (place_mapped (sources.identifier s))
+      (ap₂ (λ b bs. b ∷ bs) (same_fresh s deadline) (dropped at _ (place_mapped (sources.identifier s)))))
+      ∙ checked_mapped (map f) (enter_checks sources one places s deadline rows) (become sources one at (one.fresh s deadline ∷ drop at rows) rows)
 
   -- Amend answers on the other rows as on the rows.
-  pub amend_mapped : (s : S) (deadline : ℕ) → amend_rows names sources two s deadline (map f rows) ≡ mapped (map f) (amend_rows names sources one s deadline rows)
+  pub amend_mapped : (s : S) (deadline : ℕ) → amend_rows sources two s deadline (map f rows) ≡ mapped (map f) (amend_rows sources one s deadline rows)
   amend_mapped s deadline =
-      let at : ℕ = place_in names sources one (names.identifier s) rows in
+      let at : ℕ = place_in sources one (sources.identifier s) rows in
       ap₂ checked
-      (ap (λ b. (outside 1 horizon deadline, 21) ∷ (ltb horizon (sources.jitter s), 22) ∷ (not b, 25) ∷ []) (is_in_mapped (names.identifier s)))
-      (become_mapped at _ (one.fresh s deadline ∷ drop (suc at) rows) _ (place_mapped (names.identifier s))
-      (ap₂ (λ b bs. b ∷ bs) (same_fresh s deadline) (dropped (suc at) _ (ap suc (place_mapped (names.identifier s))))))
-      ∙ checked_mapped (map f) (amend_checks names sources one s deadline rows) (become names sources one at (one.fresh s deadline ∷ drop (suc at) rows) rows)
+      (ap (λ b. (outside 1 horizon deadline, 21) ∷ (ltb horizon (sources.jitter s), 22) ∷ (not b, 25) ∷ []) (is_in_mapped (sources.identifier s)))
+      (become_mapped at _ (one.fresh s deadline ∷ drop (suc at) rows) _ (place_mapped (sources.identifier s))
+      (ap₂ (λ b bs. b ∷ bs) (same_fresh s deadline) (dropped (suc at) _ (ap suc (place_mapped (sources.identifier s))))))
+      ∙ checked_mapped (map f) (amend_checks sources one s deadline rows) (become sources one at (one.fresh s deadline ∷ drop (suc at) rows) rows)
 
   -- Withdraw answers on the other rows as on the rows.
-  pub withdraw_mapped : (id : ℕ) → withdraw_rows names sources two id (map f rows) ≡ mapped (map f) (withdraw_rows names sources one id rows)
+  pub withdraw_mapped : (id : ℕ) → withdraw_rows sources two id (map f rows) ≡ mapped (map f) (withdraw_rows sources one id rows)
   withdraw_mapped id =
-      let at : ℕ = place_in names sources one id rows in
+      let at : ℕ = place_in sources one id rows in
       ap₂ checked
       (ap (λ b. (not b, 25) ∷ []) (is_in_mapped id))
       (become_mapped at _ (drop (suc at) rows) _ (place_mapped id) (dropped (suc at) _ (ap suc (place_mapped id))))
-      ∙ checked_mapped (map f) (withdraw_checks names sources one id rows) (become names sources one at (drop (suc at) rows) rows)
+      ∙ checked_mapped (map f) (withdraw_checks sources one id rows) (become sources one at (drop (suc at) rows) rows)
 
 -- A slot as the reference model keeps it: settled where an outcome is stored.
 abbrev pub as_standing : {S : Type 0} → Slot S → Standing S
@@ -161,90 +159,90 @@ first_answer (s ∷ rest) key k r starts matches = go s.outcome matches
     go (Some x) is = ap made (sym is)
     go None is = refl
 
-module _ {S : Type 0} (names : entry.Ghosts S) (sources : source.Ghosts S) where
+module _ {S : Type 0} (sources : Meanings S) where
   -- Rows in their ranges pass the checks of the analysis.
-  pub rows_pass : (rows : List (Slot S)) → AllOf (λ s. s.row) (InRange sources) rows → NoFault (row_checks (models names sources slots rows) (map (λ s. s.row.deadline) rows))
+  pub rows_pass : (rows : List (Slot S)) → AllOf (λ s. s.row) (InRange sources) rows → NoFault (row_checks (models sources slots rows) (map (λ s. s.row.deadline) rows))
   rows_pass [] ranges = tt
   rows_pass (s ∷ rest) (first, later) =
       (inside 1 horizon s.row.deadline first.0 first.1, (le-ltb horizon (sources.jitter s.row.source) first.2, rows_pass rest later))
 
-  module _ (places : ℕ) (rows : List (Slot S)) (good : Good names sources places rows) where
+  module _ (places : ℕ) (rows : List (Slot S)) (good : Good sources places rows) where
     -- Settle is refused only where there is no such row.
-    pub settle_is : (id : ℕ) → settle_slots names sources id rows ≡
-        checked ((not (is_in names sources slots id rows), 25) ∷ [])
-        (change_at (place_in names sources slots id rows) (with_outcome (Some (outcome_for (response_at names sources (place_in names sources slots id rows) rows)))) rows)
+    pub settle_is : (id : ℕ) → settle_slots sources id rows ≡
+        checked ((not (is_in sources slots id rows), 25) ∷ [])
+        (change_at (place_in sources slots id rows) (with_outcome (Some (outcome_for (response_at sources (place_in sources slots id rows) rows)))) rows)
     settle_is id =
-        ap (λ a. elim (not (is_in names sources slots id rows)) as (λ _. Answer (List (Slot S))) [ true ↦ refused 25 | false ↦ a ])
-        (checked_made (row_checks (models names sources slots rows) (map (λ s. s.row.deadline) rows)) _ (rows_pass rows good.in_range))
+        ap (λ a. elim (not (is_in sources slots id rows)) as (λ _. Answer (List (Slot S))) [ true ↦ refused 25 | false ↦ a ])
+        (checked_made (row_checks (models sources slots rows) (map (λ s. s.row.deadline) rows)) _ (rows_pass rows good.in_range))
 
-    settle_mapped : (id : ℕ) → settle_standing names sources id (map as_standing rows) ≡ mapped (map as_standing) (settle_slots names sources id rows)
+    settle_mapped : (id : ℕ) → settle_standing sources id (map as_standing rows) ≡ mapped (map as_standing) (settle_slots sources id rows)
     settle_mapped id =
-        let m : ℕ = place_in names sources slots id rows in
-        let o : Option Outcome = Some (outcome_for (response_at names sources m rows)) in
+        let m : ℕ = place_in sources slots id rows in
+        let o : Option Outcome = Some (outcome_for (response_at sources m rows)) in
         ap₂ checked
-        (ap (λ b. (not b, 25) ∷ []) (is_in_mapped names sources slots standings as_standing (λ _. refl) (λ _ _. refl) (λ _. refl) rows id))
-        (ap (λ n. change_at n (marked true) (map as_standing rows)) (place_mapped names sources slots standings as_standing (λ _. refl) (λ _ _. refl) (λ _. refl) rows id)
+        (ap (λ b. (not b, 25) ∷ []) (is_in_mapped sources slots standings as_standing (λ _. refl) (λ _ _. refl) (λ _. refl) rows id))
+        (ap (λ n. change_at n (marked true) (map as_standing rows)) (place_mapped sources slots standings as_standing (λ _. refl) (λ _ _. refl) (λ _. refl) rows id)
         ∙ change_at_mapped as_standing (with_outcome o) (marked true) (λ _. refl) m rows)
-        ∙ checked_mapped (map as_standing) ((not (is_in names sources slots id rows), 25) ∷ []) (change_at m (with_outcome o) rows)
+        ∙ checked_mapped (map as_standing) ((not (is_in sources slots id rows), 25) ∷ []) (change_at m (with_outcome o) rows)
         ∙ ap (mapped (map as_standing)) (sym (settle_is id))
 
     -- Look up answers the response over the rows now standing, where the row is settled.
-    pub look_up_is : (id : ℕ) → look_up_standing names sources id (map as_standing rows) ≡ look_up_slots names sources id rows
+    pub look_up_is : (id : ℕ) → look_up_standing sources id (map as_standing rows) ≡ look_up_slots sources id rows
     look_up_is id =
-        let m : ℕ = place_in names sources slots id rows in
-        let same_place = place_mapped names sources slots standings as_standing (λ _. refl) (λ _ _. refl) (λ _. refl) rows id in
-        let same_models : models names sources standings (map as_standing rows) ≡ models names sources slots rows =
+        let m : ℕ = place_in sources slots id rows in
+        let same_place = place_mapped sources slots standings as_standing (λ _. refl) (λ _ _. refl) (λ _. refl) rows id in
+        let same_models : models sources standings (map as_standing rows) ≡ models sources slots rows =
         map-map (λ r. model sources r.source) as_standing rows in
         let same_deadlines : map (λ r. r.deadline) (map as_standing rows) ≡ map (λ s. s.row.deadline) rows = map-map (λ r. r.deadline) as_standing rows in
         ap₂ checked
         (ap₂ (λ b ys. (not b, 25) ∷ (not (first_settled ys), 26) ∷ [])
-        (is_in_mapped names sources slots standings as_standing (λ _. refl) (λ _ _. refl) (λ _. refl) rows id)
+        (is_in_mapped sources slots standings as_standing (λ _. refl) (λ _ _. refl) (λ _. refl) rows id)
         (ap (λ n. drop n (map as_standing rows)) same_place ∙ drop-map as_standing m rows))
-        (ap (λ n. response (place (models names sources standings (map as_standing rows)) n) (get_or (map (λ r. r.deadline) (map as_standing rows)) n 0)) same_place
+        (ap (λ n. response (place (models sources standings (map as_standing rows)) n) (get_or (map (λ r. r.deadline) (map as_standing rows)) n 0)) same_place
         ∙ ap₂ (λ ms ds. response (place ms m) (get_or ds m 0)) same_models same_deadlines)
-        ∙ go (is_in names sources slots id rows) refl
+        ∙ go (is_in sources slots id rows) refl
       where
-        go : (b : Bool) → is_in names sources slots id rows ≡ b →
-            checked ((not b, 25) ∷ (not (first_settled (map as_standing (drop (place_in names sources slots id rows) rows))), 26) ∷ []) (response_at names sources (place_in names sources slots id rows) rows)
-            ≡ elim b as (λ _. Answer Response) [ true ↦ first_shows (drop (place_in names sources slots id rows) rows) | false ↦ refused 25 ]
+        go : (b : Bool) → is_in sources slots id rows ≡ b →
+            checked ((not b, 25) ∷ (not (first_settled (map as_standing (drop (place_in sources slots id rows) rows))), 26) ∷ []) (response_at sources (place_in sources slots id rows) rows)
+            ≡ elim b as (λ _. Answer Response) [ true ↦ first_shows (drop (place_in sources slots id rows) rows) | false ↦ refused 25 ]
         go true is =
-            first_answer (drop (place_in names sources slots id rows) rows) (identifier names sources slots) id (response_at names sources (place_in names sources slots id rows) rows) is
-            (stored_at names sources [] (place_in names sources slots id rows) rows good.stored)
+            first_answer (drop (place_in sources slots id rows) rows) (identifier sources slots) id (response_at sources (place_in sources slots id rows) rows) is
+            (stored_at sources [] (place_in sources slots id rows) rows good.stored)
         go false is = refl
 
     -- The reference model takes every use as the register does.
-    pub step_is : (u : Use S) → reference_step names sources places (map as_standing rows) u ≡ mapped_step as_standing (register_step names sources places rows u)
+    pub step_is : (u : Use S) → reference_step sources places (map as_standing rows) u ≡ mapped_step as_standing (register_step sources places rows u)
     step_is (Enter row) =
-        ap (changes (map as_standing rows)) (enter_mapped names sources slots standings as_standing (λ _. refl) (λ _ _. refl) (λ _. refl) rows places row.source row.deadline)
-        ∙ changes_mapped as_standing rows (enter_rows names sources slots places row.source row.deadline rows)
+        ap (changes (map as_standing rows)) (enter_mapped sources slots standings as_standing (λ _. refl) (λ _ _. refl) (λ _. refl) rows places row.source row.deadline)
+        ∙ changes_mapped as_standing rows (enter_rows sources slots places row.source row.deadline rows)
     step_is (Amend row) =
-        ap (changes (map as_standing rows)) (amend_mapped names sources slots standings as_standing (λ _. refl) (λ _ _. refl) (λ _. refl) rows row.source row.deadline)
-        ∙ changes_mapped as_standing rows (amend_rows names sources slots row.source row.deadline rows)
+        ap (changes (map as_standing rows)) (amend_mapped sources slots standings as_standing (λ _. refl) (λ _ _. refl) (λ _. refl) rows row.source row.deadline)
+        ∙ changes_mapped as_standing rows (amend_rows sources slots row.source row.deadline rows)
     step_is (Withdraw id) =
-        ap (changes (map as_standing rows)) (withdraw_mapped names sources slots standings as_standing (λ _. refl) (λ _ _. refl) (λ _. refl) rows id)
-        ∙ changes_mapped as_standing rows (withdraw_rows names sources slots id rows)
-    step_is (Settle id) = ap (changes (map as_standing rows)) (settle_mapped id) ∙ changes_mapped as_standing rows (settle_slots names sources id rows)
-    step_is (LookUp id) = ap (shows (map as_standing rows)) (look_up_is id) ∙ shows_mapped as_standing rows (look_up_slots names sources id rows)
+        ap (changes (map as_standing rows)) (withdraw_mapped sources slots standings as_standing (λ _. refl) (λ _ _. refl) (λ _. refl) rows id)
+        ∙ changes_mapped as_standing rows (withdraw_rows sources slots id rows)
+    step_is (Settle id) = ap (changes (map as_standing rows)) (settle_mapped id) ∙ changes_mapped as_standing rows (settle_slots sources id rows)
+    step_is (LookUp id) = ap (shows (map as_standing rows)) (look_up_is id) ∙ shows_mapped as_standing rows (look_up_slots sources id rows)
 
   module _ (places : ℕ) where
-    replies_from : (uses : List (Use S)) (rows : List (Slot S)) → Good names sources places rows →
-        replies names sources standings (settle_standing names sources) (look_up_standing names sources) places (map as_standing rows) uses ≡ register_replies names sources places rows uses
+    replies_from : (uses : List (Use S)) (rows : List (Slot S)) → Good sources places rows →
+        replies sources standings (settle_standing sources) (look_up_standing sources) places (map as_standing rows) uses ≡ register_replies sources places rows uses
     replies_from [] rows good = refl
     replies_from (u ∷ us) rows good =
-        ap (λ s. s.reply ∷ replies names sources standings (settle_standing names sources) (look_up_standing names sources) places s.rows us) (step_is places rows good u)
-        ∙ ap (λ rs. (register_step names sources places rows u).reply ∷ rs) (replies_from us (register_step names sources places rows u).rows (good_step names sources places rows good u))
+        ap (λ s. s.reply ∷ replies sources standings (settle_standing sources) (look_up_standing sources) places s.rows us) (step_is places rows good u)
+        ∙ ap (λ rs. (register_step sources places rows u).reply ∷ rs) (replies_from us (register_step sources places rows u).rows (good_step sources places rows good u))
 
-    after_from : (uses : List (Use S)) (rows : List (Slot S)) → Good names sources places rows →
-        rows_after names sources standings (settle_standing names sources) (look_up_standing names sources) places (map as_standing rows) uses ≡ map as_standing (register_after names sources places rows uses)
+    after_from : (uses : List (Use S)) (rows : List (Slot S)) → Good sources places rows →
+        rows_after sources standings (settle_standing sources) (look_up_standing sources) places (map as_standing rows) uses ≡ map as_standing (register_after sources places rows uses)
     after_from [] rows good = refl
     after_from (u ∷ us) rows good =
-        ap (λ s. rows_after names sources standings (settle_standing names sources) (look_up_standing names sources) places s.rows us) (step_is places rows good u)
-        ∙ after_from us (register_step names sources places rows u).rows (good_step names sources places rows good u)
+        ap (λ s. rows_after sources standings (settle_standing sources) (look_up_standing sources) places s.rows us) (step_is places rows good u)
+        ∙ after_from us (register_step sources places rows u).rows (good_step sources places rows good u)
 
     -- Whatever the uses, the register replies as the reference model does.
-    pub replies_are : (uses : List (Use S)) → register_replies names sources places [] uses ≡ reference_replies names sources places uses
-    replies_are uses = sym (replies_from uses [] (good_empty names sources places))
+    pub replies_are : (uses : List (Use S)) → register_replies sources places [] uses ≡ reference_replies sources places uses
+    replies_are uses = sym (replies_from uses [] (good_empty sources places))
 
     -- Whatever the uses, the reference model has the rows of the register.
-    pub after_is : (uses : List (Use S)) → reference_after names sources places uses ≡ map as_standing (register_after names sources places [] uses)
-    after_is uses = after_from uses [] (good_empty names sources places)
+    pub after_is : (uses : List (Use S)) → reference_after sources places uses ≡ map as_standing (register_after sources places [] uses)
+    after_is uses = after_from uses [] (good_empty sources places)

@@ -2,10 +2,8 @@
 use Rattle.std.proofs.Common.{◌≡◌, ℕ, ◌<◌, Bool, true, false, List, [], ◌∷◌, map, length, get_or, drop, Some, None, Option, refl, subst, arith}
 use Rattle.std.proofs.lemmas.List.{length-map}
 use Rattle.sources.specs.Streams.{Laws}
-use Rattle.sources.specs.Models.{model}
+use Rattle.sources.specs.Models.{model, Meanings}
 use Rattle.sources.specs.Answers.{Answer, made, refused}
-use Rattle.sources.specs.declared.source.Entry as entry
-use Rattle.sources.specs.declared.source.Source as source
 use Rattle.response.specs.declared.outcome.Outcome.{Outcome}
 use Rattle.response.specs.Bounds.{AllLawful, Response}
 use Rattle.response.specs.Views.{outcome_of}
@@ -27,34 +25,34 @@ first_shown (s ∷ rest) response r matches shows = go s.outcome matches shows
     go (Some x) is shown = cc
     go None is shown = let z : ◌≡◌ {A = ℕ} 0 1 = cc in absurd (omega arith)
 
-module _ {S : Type 0} (names : entry.Ghosts S) (sources : source.Ghosts S) where
+module _ {S : Type 0} (sources : Meanings S) where
   -- A row that shows a response is one of the rows, and it is the first from its place on that shows it.
-  pub shown_in : (rows : List (Slot S)) (id : ℕ) (r : Response) → Shows names sources rows id r →
-      (is_in names sources slots id rows ≡ true) × (first_shows (drop (place_in names sources slots id rows) rows) ≡ made r)
-  shown_in rows id r shown = go (is_in names sources slots id rows) shown
+  pub shown_in : (rows : List (Slot S)) (id : ℕ) (r : Response) → Shows sources rows id r →
+      (is_in sources slots id rows ≡ true) × (first_shows (drop (place_in sources slots id rows) rows) ≡ made r)
+  shown_in rows id r shown = go (is_in sources slots id rows) shown
     where
-      go : (b : Bool) → elim b as (λ _. Answer Response) [ true ↦ first_shows (drop (place_in names sources slots id rows) rows) | false ↦ refused 25 ] ≡ made r →
-          (b ≡ true) × (first_shows (drop (place_in names sources slots id rows) rows) ≡ made r)
+      go : (b : Bool) → elim b as (λ _. Answer Response) [ true ↦ first_shows (drop (place_in sources slots id rows) rows) | false ↦ refused 25 ] ≡ made r →
+          (b ≡ true) × (first_shows (drop (place_in sources slots id rows) rows) ≡ made r)
       go true e = (refl, e)
       go false e = let z : ◌≡◌ {A = ℕ} 0 1 = cc in absurd (omega arith)
 
   -- Every row keeps what a source owes.
-  pub slots_lawful : ((s : S) → Laws (model sources s)) → (rows : List (Slot S)) → AllLawful (models names sources slots rows)
+  pub slots_lawful : ((s : S) → Laws (model sources s)) → (rows : List (Slot S)) → AllLawful (models sources slots rows)
   slots_lawful lawful [] = tt
   slots_lawful lawful (s ∷ rest) = (lawful s.row.source, slots_lawful lawful rest)
 
-  module _ (places : ℕ) (rows : List (Slot S)) (good : Good names sources places rows) where
+  module _ (places : ℕ) (rows : List (Slot S)) (good : Good sources places rows) where
     -- What a row shows is its response over the rows.
-    pub shown_is : (id : ℕ) (r : Response) → Shows names sources rows id r → response_at names sources (place_in names sources slots id rows) rows ≡ r
+    pub shown_is : (id : ℕ) (r : Response) → Shows sources rows id r → response_at sources (place_in sources slots id rows) rows ≡ r
     shown_is id r shown =
-        first_shown (drop (place_in names sources slots id rows) rows) (response_at names sources (place_in names sources slots id rows) rows) r
-        (stored_at names sources [] (place_in names sources slots id rows) rows good.stored) (shown_in rows id r shown).1
+        first_shown (drop (place_in sources slots id rows) rows) (response_at sources (place_in sources slots id rows) rows) r
+        (stored_at sources [] (place_in sources slots id rows) rows good.stored) (shown_in rows id r shown).1
 
     -- No lawful run outlasts what a row shows.
-    pub bounds_hold : ((s : S) → Laws (model sources s)) → BoundsHold names sources rows
+    pub bounds_hold : ((s : S) → Laws (model sources s)) → BoundsHold sources rows
     bounds_hold lawful id r shown =
-        let m : ℕ = place_in names sources slots id rows in
-        let inside : m < length rows = place_inside (identifier names sources slots) id rows (shown_in rows id r shown).0 in
-        subst (NoRunOutlasts (models names sources slots rows) m) (shown_is id r shown)
-        (no_run_outlasts (models names sources slots rows) (slots_lawful lawful rows) m
+        let m : ℕ = place_in sources slots id rows in
+        let inside : m < length rows = place_inside (identifier sources slots) id rows (shown_in rows id r shown).0 in
+        subst (NoRunOutlasts (models sources slots rows) m) (shown_is id r shown)
+        (no_run_outlasts (models sources slots rows) (slots_lawful lawful rows) m
         (omega (arith, length-map rows (λ s. model sources s.row.source))) (get_or (map (λ s. s.row.deadline) rows) m 0))

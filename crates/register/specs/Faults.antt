@@ -1,5 +1,5 @@
--- The refusals of the register and of its host, each with its number.
-use Rattle.std.specs.Prelude.{ℕ}
+-- The refusals of the register and of its host, each with its number and its words.
+use Rattle.std.specs.Prelude.{ℕ, List, codes}
 use Rattle.sources.specs.Faults as row
 use Rattle.register.specs.declared.uses.RegisterFault.{RegisterFault}
 use Rattle.register.specs.declared.uses.RegisterFault.TheVariants.{Row, Deadline, Jitter, Taken, Full, Absent, Unsettled}
@@ -17,3 +17,15 @@ fault_number Unsettled = 26
 
 abbrev pub host_number : HostFault → ℕ
 host_number ShortList = 32
+
+abbrev pub fault_word : RegisterFault → List ℕ
+fault_word (Row fault) = row.fault_word fault
+fault_word Deadline = codes "the deadline is not 1 to 1,000,000"
+fault_word Jitter = codes "the jitter is above 1,000,000"
+fault_word Taken = codes "the identifier is taken"
+fault_word Full = codes "there are 256 rows, or as many as the memory has places"
+fault_word Absent = codes "there is no such row"
+fault_word Unsettled = codes "the row is unsettled"
+
+abbrev pub host_word : HostFault → List ℕ
+host_word ShortList = codes "the list is shorter than the row count"

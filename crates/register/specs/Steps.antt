@@ -1,8 +1,7 @@
 -- One use after the other, on rows of any kind.
-use Rattle.std.specs.Prelude.{ℕ, List, [], ◌∷◌, Ok, Err, Result}
+use Rattle.std.specs.Prelude.{ℕ, List, [], ◌∷◌, Some, None, Ok, Err, Option, Result}
+use Rattle.sources.specs.Models.{Meanings}
 use Rattle.sources.specs.Answers.{Answer, made, refused}
-use Rattle.sources.specs.declared.source.Entry as entry
-use Rattle.sources.specs.declared.source.Source as source
 use Rattle.response.specs.Bounds.{Response}
 use Rattle.response.specs.Views.{outcome_of}
 use Rattle.response.specs.declared.outcome.Outcome.{Outcome}
@@ -10,8 +9,6 @@ use Rattle.register.specs.declared.slot.Slot.{Slot}
 use Rattle.register.specs.declared.uses.RegisterFault.{RegisterFault}
 use Rattle.register.specs.declared.uses.Use.{Use}
 use Rattle.register.specs.declared.uses.Use.TheVariants.{Enter, Amend, Withdraw, Settle, LookUp}
-use Rattle.register.specs.declared.uses.Answer as code
-use Rattle.register.specs.declared.uses.Answer.TheVariants.{Done, Shown, Refused}
 use Rattle.register.specs.Faults.{fault_number}
 use Rattle.register.specs.Calls.{Kind, enter_rows, amend_rows, withdraw_rows}
 use Rattle.register.specs.Slots.{slots, settle_slots, look_up_slots, Memory, stored, enter_memory, amend_memory, withdraw_memory, settle_memory}
@@ -24,10 +21,10 @@ pub data Reply : Type 0 where
   denied : ℕ → Reply
 
 -- The code's answer as a reply.
-abbrev pub reply_of : code.Answer → Reply
-reply_of Done = done
-reply_of (Shown o) = shown (outcome_of o)
-reply_of (Refused f) = denied (fault_number f)
+abbrev pub reply_of : Result (Option Outcome) RegisterFault → Reply
+reply_of (Ok None) = done
+reply_of (Ok (Some o)) = shown (outcome_of o)
+reply_of (Err f) = denied (fault_number f)
 
 -- The rows after a use, and the reply.
 pub record Step (A : Type 0) : Type 0 where
@@ -44,22 +41,13 @@ abbrev pub shows : {A : Type 0} → List A → Answer Response → Step A
 shows rows (made r) = record { rows = rows; reply = shown r }
 shows rows (refused n) = record { rows = rows; reply = denied n }
 
--- The reply to a call that changes rows, and to one that shows a response, from its result.
-abbrev pub done_reply : Result (Unit {0}) RegisterFault → Reply
-done_reply (Ok u) = done
-done_reply (Err f) = denied (fault_number f)
-
-abbrev pub shown_reply : Result Outcome RegisterFault → Reply
-shown_reply (Ok o) = shown (outcome_of o)
-shown_reply (Err f) = denied (fault_number f)
-
-module _ {S A : Type 0} (names : entry.Ghosts S) (sources : source.Ghosts S) (kind : Kind S A)
+module _ {S A : Type 0} (sources : Meanings S) (kind : Kind S A)
     (settle : ℕ → List A → Answer (List A)) (look_up : ℕ → List A → Answer Response) (places : ℕ) where
   -- One use.
   abbrev pub step : List A → Use S → Step A
-  step rows (Enter row) = changes rows (enter_rows names sources kind places row.source row.deadline rows)
-  step rows (Amend row) = changes rows (amend_rows names sources kind row.source row.deadline rows)
-  step rows (Withdraw id) = changes rows (withdraw_rows names sources kind id rows)
+  step rows (Enter row) = changes rows (enter_rows sources kind places row.source row.deadline rows)
+  step rows (Amend row) = changes rows (amend_rows sources kind row.source row.deadline rows)
+  step rows (Withdraw id) = changes rows (withdraw_rows sources kind id rows)
   step rows (Settle id) = changes rows (settle id rows)
   step rows (LookUp id) = shows rows (look_up id rows)
 
@@ -72,34 +60,34 @@ module _ {S A : Type 0} (names : entry.Ghosts S) (sources : source.Ghosts S) (ki
   replies rows [] = []
   replies rows (u ∷ us) = (step rows u).reply ∷ replies (step rows u).rows us
 
-module _ {S : Type 0} (names : entry.Ghosts S) (sources : source.Ghosts S) (places : ℕ) where
+module _ {S : Type 0} (sources : Meanings S) (places : ℕ) where
   -- The register in memory with a number of places.
   abbrev pub register_step : List (Slot S) → Use S → Step (Slot S)
-  register_step = step names sources slots (settle_slots names sources) (look_up_slots names sources) places
+  register_step = step sources slots (settle_slots sources) (look_up_slots sources) places
 
   abbrev pub register_after : List (Slot S) → List (Use S) → List (Slot S)
-  register_after = rows_after names sources slots (settle_slots names sources) (look_up_slots names sources) places
+  register_after = rows_after sources slots (settle_slots sources) (look_up_slots sources) places
 
   abbrev pub register_replies : List (Slot S) → List (Use S) → List Reply
-  register_replies = replies names sources slots (settle_slots names sources) (look_up_slots names sources) places
+  register_replies = replies sources slots (settle_slots sources) (look_up_slots sources) places
 
   -- The reference model with the same number of places.
   abbrev pub reference_step : List (Standing S) → Use S → Step (Standing S)
-  reference_step = step names sources standings (settle_standing names sources) (look_up_standing names sources) places
+  reference_step = step sources standings (settle_standing sources) (look_up_standing sources) places
 
   abbrev pub reference_after : List (Use S) → List (Standing S)
-  reference_after uses = rows_after names sources standings (settle_standing names sources) (look_up_standing names sources) places [] uses
+  reference_after uses = rows_after sources standings (settle_standing sources) (look_up_standing sources) places [] uses
 
   abbrev pub reference_replies : List (Use S) → List Reply
-  reference_replies uses = replies names sources standings (settle_standing names sources) (look_up_standing names sources) places [] uses
+  reference_replies uses = replies sources standings (settle_standing sources) (look_up_standing sources) places [] uses
 
-module _ {S : Type 0} (names : entry.Ghosts S) (sources : source.Ghosts S) where
+module _ {S : Type 0} (sources : Meanings S) where
   -- The memory after one use.
   abbrev pub memory_step : Memory S → Use S → Memory S
-  memory_step memory (Enter row) = stored memory (enter_memory names sources row memory)
-  memory_step memory (Amend row) = stored memory (amend_memory names sources row memory)
-  memory_step memory (Withdraw id) = stored memory (withdraw_memory names sources id memory)
-  memory_step memory (Settle id) = stored memory (settle_memory names sources id memory)
+  memory_step memory (Enter row) = stored memory (enter_memory sources row memory)
+  memory_step memory (Amend row) = stored memory (amend_memory sources row memory)
+  memory_step memory (Withdraw id) = stored memory (withdraw_memory sources id memory)
+  memory_step memory (Settle id) = stored memory (settle_memory sources id memory)
   memory_step memory (LookUp id) = memory
 
   -- The memory after a list of uses.

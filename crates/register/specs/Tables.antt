@@ -1,5 +1,5 @@
 -- Tables of rows that rise by a key, and which rows a change unsettles.
-use Rattle.std.specs.Prelude.{ℕ, suc, ◌+◌, ◌-◌, max, Bool, true, false, List, [], ◌∷◌, ◌++◌, map, take, drop, ◌==◌, nat_lt}
+use Rattle.std.specs.Prelude.{ℕ, suc, ◌-◌, max, Bool, true, false, List, [], ◌∷◌, ◌++◌, map, length, take, drop, Ok, Err, Result, ◌==◌, nat_lt}
 
 -- The place of a key: how many of the first rows have a lower one.
 abbrev pub place_of : {A : Type 0} → (A → ℕ) → ℕ → List A → ℕ
@@ -15,6 +15,10 @@ starts_with key k (a ∷ rest) = key a == k
 abbrev pub has : {A : Type 0} → (A → ℕ) → ℕ → List A → Bool
 has key k rows = starts_with key k (drop (place_of key k rows) rows)
 
+-- The place where the row with the key stands, or as an error the place where it would stand.
+abbrev pub found_in : {A : Type 0} → (A → ℕ) → ℕ → List A → Result ℕ ℕ
+found_in key k rows = elim (has key k rows) [ true ↦ Ok (place_of key k rows) | false ↦ Err (place_of key k rows) ]
+
 -- The rows with the one at a place changed.
 abbrev pub on_first : {A : Type 0} → (A → A) → List A → List A
 on_first f [] = []
@@ -23,13 +27,13 @@ on_first f (a ∷ rest) = f a ∷ rest
 abbrev pub change_at : {A : Type 0} → ℕ → (A → A) → List A → List A
 change_at place f rows = take place rows ++ on_first f (drop place rows)
 
--- Memory with a row put in at a place: those from there up to an end move down by one.
-abbrev pub inserted : {A : Type 0} → ℕ → ℕ → A → List A → List A
-inserted place end row memory = take place memory ++ (row ∷ (take (end - place) (drop place memory) ++ drop (end + 1) memory))
+-- Rows with one put in at a place: those from there on move down by one, over the last.
+abbrev pub inserted : {A : Type 0} → ℕ → A → List A → List A
+inserted place row rows = take place rows ++ (row ∷ take (length rows - suc place) (drop place rows))
 
--- Memory with the row at a place taken out: those below it up to an end move up by one, and the last place keeps what it holds.
-abbrev pub removed : {A : Type 0} → ℕ → ℕ → List A → List A
-removed place end memory = take place memory ++ (take (end - (place + 1)) (drop (place + 1) memory) ++ drop (end - 1) memory)
+-- Rows with the one at a place taken out: those below it move up by one, and the last place keeps what it holds.
+abbrev pub removed : {A : Type 0} → ℕ → List A → List A
+removed place rows = take place rows ++ (drop (suc place) rows ++ drop (length rows - 1) rows)
 
 -- The longest frame of rows, or 0.
 abbrev pub longest : {A : Type 0} → (A → ℕ) → List A → ℕ
@@ -46,7 +50,13 @@ unsettle_by unsettled before after a = elim (before == after) [ true ↦ a | fal
 abbrev pub unsettle_above : {A : Type 0} → (A → ℕ) → (A → A) → List A → ℕ → ℕ → List A
 unsettle_above frame unsettled [] before after = []
 unsettle_above frame unsettled (a ∷ rest) before after =
-    elim (max (longest frame rest) before == max (longest frame rest) after) [ true ↦ a | false ↦ unsettled a ] ∷ unsettle_above frame unsettled rest before after
+    unsettle_by unsettled (max (longest frame rest) before) (max (longest frame rest) after) a ∷ unsettle_above frame unsettled rest before after
+
+-- Rows that are new from a place on, once what the change there unsettles is unsettled: those from the place on, which had a given
+-- longest frame before, and those above as their longest frame below is changed.
+abbrev pub unsettled_from : {A : Type 0} → (A → ℕ) → (A → A) → ℕ → ℕ → List A → List A
+unsettled_from frame unsettled place before rows =
+    unsettle_above frame unsettled (take place rows) before (longest frame (drop place rows)) ++ map unsettled (drop place rows)
 
 -- The rows after a change at a place, from which on they are as given: these are unsettled, and those above as their longest frame
 -- below is changed.

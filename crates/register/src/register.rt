@@ -3,7 +3,7 @@ ghost use Rattle.std.specs.Prelude.{◌≡◌, take};
 ghost use Rattle.sources.specs.Answers.{answered};
 ghost use Rattle.response.specs.Views.{outcome_of};
 ghost use Rattle.register.specs.Faults.{fault_number, host_number};
-ghost use Rattle.register.specs.Slots.{Memory, opened, used_after, accepted, stored, enter_memory, amend_memory, withdraw_memory, settle_memory, look_up_memory, chart_rows, chart_count, list_after};
+ghost use Rattle.register.specs.Slots.{memory_of, opened, accepted, stored, enter_memory, amend_memory, withdraw_memory, settle_memory, look_up_memory, chart_rows, chart_count, list_after};
 
 use crate::calls;
 use crate::slot::Slot;
@@ -11,7 +11,7 @@ use crate::uses::{HostFault, RegisterFault};
 use response::{Outcome, Row};
 use sources::Source;
 
-// Rows rise by identifier; places past the last row keep what they hold.
+// Rows rise by identifier; places past the last row keep what they hold. The memory is the caller's, so a slice with a number beside it.
 #[derive(Drop)]
 pub struct Register<'a, S> {
     slots: &'a mut [Slot<S>],
@@ -21,69 +21,51 @@ pub struct Register<'a, S> {
 impl<'a, S: Source + Copy> Register<'a, S> {
     // An empty register.
     pub fn open(slots: &'a mut [Slot<S>]) -> Register<'a, S>
-        ensures memory { ◌≡◌ {A = Memory S} (record { places = result.slots.now; used = result.used }) (opened slots.old) }
+        ensures memory { memory_of result ≡ opened slots.old }
         ensures same { result.slots.ghost_name ≡ slots.entry.ghost_name }
     {
         Register { slots, used: 0 }
     }
 
-    // Keeps the number of rows that a call answered, unless it was refused.
-    fn keep(&mut self, count: Result<usize, RegisterFault>) -> Result<(), RegisterFault>
-        ensures answer { answered fault_number (λ u. u) result ≡ answered fault_number (λ _. tt {0}) count }
-        ensures memory { ◌≡◌ {A = Memory S} (record { places = self.new.slots.now; used = self.new.used }) (record { places = self.old.slots.now; used = used_after self.old.used count }) }
-        ensures same { self.new.slots.ghost_name ≡ self.old.slots.ghost_name }
-    {
-        self.used = count?;
-        Ok(())
-    }
-
     // Enters a row. Refused with 21, 22, 23, 24.
     pub fn enter(&mut self, row: Row<S>) -> Result<(), RegisterFault>
-        ensures answer { answered fault_number (λ u. u) result ≡ accepted (enter_memory S.Entry S.Source.own row (record { places = self.old.slots.now; used = self.old.used })) }
-        ensures memory { ◌≡◌ {A = Memory S} (record { places = self.new.slots.now; used = self.new.used }) (stored (record { places = self.old.slots.now; used = self.old.used }) (enter_memory S.Entry S.Source.own row (record { places = self.old.slots.now; used = self.old.used }))) }
+        ensures answer { answered fault_number (λ u. u) result ≡ accepted (enter_memory S.Source row (memory_of self.old)) }
+        ensures memory { memory_of self.new ≡ stored (memory_of self.old) (enter_memory S.Source row (memory_of self.old)) }
         ensures same { self.new.slots.ghost_name ≡ self.old.slots.ghost_name }
     {
-        let used = self.used;
-        let count = calls::enter(self.slots, used, row);
-        self.keep(count)
+        calls::enter(self.slots, &mut self.used, row)
     }
 
     // Replaces the row with the source's identifier. Refused with 21, 22, 25.
     pub fn amend(&mut self, row: Row<S>) -> Result<(), RegisterFault>
-        ensures answer { answered fault_number (λ u. u) result ≡ accepted (amend_memory S.Entry S.Source.own row (record { places = self.old.slots.now; used = self.old.used })) }
-        ensures memory { ◌≡◌ {A = Memory S} (record { places = self.new.slots.now; used = self.new.used }) (stored (record { places = self.old.slots.now; used = self.old.used }) (amend_memory S.Entry S.Source.own row (record { places = self.old.slots.now; used = self.old.used }))) }
+        ensures answer { answered fault_number (λ u. u) result ≡ accepted (amend_memory S.Source row (memory_of self.old)) }
+        ensures memory { memory_of self.new ≡ stored (memory_of self.old) (amend_memory S.Source row (memory_of self.old)) }
         ensures same { self.new.slots.ghost_name ≡ self.old.slots.ghost_name }
     {
-        let used = self.used;
-        let count = calls::amend(self.slots, used, row);
-        self.keep(count)
+        calls::amend(self.slots, &mut self.used, row)
     }
 
     // Removes a row; lower rows move up one place. Refused with 25.
     pub fn withdraw(&mut self, identifier: u32) -> Result<(), RegisterFault>
-        ensures answer { answered fault_number (λ u. u) result ≡ accepted (withdraw_memory S.Entry S.Source.own identifier (record { places = self.old.slots.now; used = self.old.used })) }
-        ensures memory { ◌≡◌ {A = Memory S} (record { places = self.new.slots.now; used = self.new.used }) (stored (record { places = self.old.slots.now; used = self.old.used }) (withdraw_memory S.Entry S.Source.own identifier (record { places = self.old.slots.now; used = self.old.used }))) }
+        ensures answer { answered fault_number (λ u. u) result ≡ accepted (withdraw_memory S.Source identifier (memory_of self.old)) }
+        ensures memory { memory_of self.new ≡ stored (memory_of self.old) (withdraw_memory S.Source identifier (memory_of self.old)) }
         ensures same { self.new.slots.ghost_name ≡ self.old.slots.ghost_name }
     {
-        let used = self.used;
-        let count = calls::withdraw(self.slots, used, identifier);
-        self.keep(count)
+        calls::withdraw(self.slots, &mut self.used, identifier)
     }
 
     // Works out and stores verdict, bound and round count of a row. Refused with 25.
     pub fn settle(&mut self, identifier: u32) -> Result<(), RegisterFault>
-        ensures answer { answered fault_number (λ u. u) result ≡ accepted (settle_memory S.Entry S.Source.own identifier (record { places = self.old.slots.now; used = self.old.used })) }
-        ensures memory { ◌≡◌ {A = Memory S} (record { places = self.new.slots.now; used = self.new.used }) (stored (record { places = self.old.slots.now; used = self.old.used }) (settle_memory S.Entry S.Source.own identifier (record { places = self.old.slots.now; used = self.old.used }))) }
+        ensures answer { answered fault_number (λ u. u) result ≡ accepted (settle_memory S.Source identifier (memory_of self.old)) }
+        ensures memory { memory_of self.new ≡ stored (memory_of self.old) (settle_memory S.Source identifier (memory_of self.old)) }
         ensures same { self.new.slots.ghost_name ≡ self.old.slots.ghost_name }
     {
-        let used = self.used;
-        let count = calls::settle(self.slots, used, identifier);
-        self.keep(count)
+        calls::settle(self.slots, &mut self.used, identifier)
     }
 
     // The verdict, bound and round count of a row. Refused with 25, 26.
     pub fn look_up(&self, identifier: u32) -> Result<Outcome, RegisterFault>
-        ensures { answered fault_number outcome_of result ≡ look_up_memory S.Entry S.Source.own identifier (record { places = self.now.slots.now; used = self.now.used }) }
+        ensures { answered fault_number outcome_of result ≡ look_up_memory S.Source identifier (memory_of self.now) }
     {
         calls::look_up(self.slots, self.used, identifier)
     }

@@ -4,7 +4,7 @@ ghost use Rattle.sources.specs.Answers.{answered};
 ghost use Rattle.response.specs.Views.{outcome_of};
 ghost use Rattle.register.specs.Faults.{fault_number};
 ghost use Rattle.register.specs.Tables.{unsettle_by};
-ghost use Rattle.register.specs.Slots.{with_outcome, with_row, bound_shown, slot_shows};
+ghost use Rattle.register.specs.Slots.{with_outcome, bound_shown, slot_shows};
 
 use crate::uses::RegisterFault;
 use response::{Listed, Outcome, Row};
@@ -38,16 +38,6 @@ impl<S: Copy> Slot<S> {
         }
     }
 
-    // Another row, with the outcome of this one.
-    pub(crate) fn amended(self, row: Row<S>) -> Slot<S>
-        ensures { result ≡ with_row row self }
-    {
-        Slot {
-            row,
-            outcome: self.outcome,
-        }
-    }
-
     // The row above a change, by the longest frame below it before the change and after it: unsettled where they differ.
     pub(crate) fn unsettled_by(self, before: u32, after: u32) -> Slot<S>
         ensures { result ≡ unsettle_by (with_outcome Nothing) before after self }
@@ -71,20 +61,14 @@ impl<S> Slot<S> {
     pub(crate) fn looked_up(&self) -> Result<Outcome, RegisterFault>
         ensures { answered fault_number outcome_of result ≡ slot_shows self.now }
     {
-        match self.shown() {
-            Some(outcome) => Ok(outcome),
-            None => Err(RegisterFault::Unsettled),
-        }
+        self.shown().ok_or(RegisterFault::Unsettled)
     }
 
     // The bound that the row shows, and 0 where it shows none.
     pub fn bound(&self) -> u32
         ensures { result ≡ bound_shown self.now }
     {
-        match self.outcome {
-            Some(outcome) => outcome.bound(),
-            None => 0,
-        }
+        self.shown().map_or(0, |outcome| outcome.bound())
     }
 }
 

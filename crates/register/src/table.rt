@@ -1,80 +1,45 @@
 // The ordered table: finding a row by its identifier, and moving rows within lent memory.
-ghost use Rattle.std.specs.Prelude.{◌≡◌, ℕ, ◌+◌, ◌-◌, ◌<◌, ◌≤◌, ◌∷◌, ◌++◌, length, take, drop, nat_lt, slice_index_or, slice_set};
-ghost use Rattle.register.specs.Tables.{place_of, starts_with};
+ghost use Rattle.std.specs.Prelude.{◌≡◌, ◌<◌, length, nat_le, position};
+ghost use Rattle.register.specs.Tables.{found_in, inserted, removed};
 
 use sources::Entry;
 
-// Whether a row has a lower identifier.
-fn comes_before<E: Entry>(row: &E, identifier: u32) -> bool
-    ensures { result ≡ nat_lt (E.Entry.identifier row.now) identifier }
+// The place of the first row whose identifier is not lower.
+fn first_from<E: Entry>(rows: &[E], identifier: u32) -> Option<usize>
+    ensures { result ≡ position (λ row. nat_le identifier (E.Entry.identifier row)) rows.now }
 {
-    row.identifier() < identifier
+    rows.iter().position(|row| row.identifier() >= identifier)
 }
 
-// The place of an identifier: how many of the first rows have a lower one.
-pub fn find<E: Entry>(rows: &[E], identifier: u32) -> usize
-    ensures { result ≡ place_of E.Entry.identifier identifier rows.now }
+// The place of the row with an identifier, or as an error the place where it would stand: in both cases after the first rows that have a
+// lower one.
+pub(crate) fn find<E: Entry>(rows: &[E], identifier: u32) -> Result<usize, usize>
+    ensures { result ≡ found_in E.Entry.identifier identifier rows.now }
 {
-    for (place, row) in rows.iter().enumerate() {
-        if !comes_before(row, identifier) {
-            return place;
-        }
-    }
-    rows.len()
-}
-
-// Whether the row at a place has the identifier.
-pub fn stands<E: Entry>(rows: &[E], place: usize, identifier: u32) -> bool
-    ensures { result ≡ starts_with E.Entry.identifier identifier (drop place rows.now) }
-{
-    place < rows.len() && rows[place].identifier() == identifier
-}
-
-// Writes a row at a place.
-pub(crate) fn put<T: Copy>(places: &mut [T], place: usize, row: T)
-    requires { place < length places.old }
-    ensures { places.new ≡ slice_set places.old place row }
-{
-    places[place] = row;
-}
-
-// Writes a row at a place; answers the one that stood there.
-fn exchange<T: Copy>(places: &mut [T], place: usize, row: T) -> T
-    requires { place < length places.old }
-    ensures taken { result ≡ slice_index_or places.old place result }
-    ensures memory { places.new ≡ slice_set places.old place row }
-{
-    let taken = places[place];
-    put(places, place, row);
-    taken
-}
-
-// Puts a row at a place and moves those from there up to the end down by one.
-pub(crate) fn insert<T: Copy>(places: &mut [T], place: usize, end: usize, row: T)
-    requires { (place ≤ end) × (end < length places.old) }
-    ensures { places.new ≡ take place places.old ++ (row ∷ (take (end - place) (drop place places.old) ++ drop (end + 1) places.old)) }
-{
-    let mut carried = row;
-    for i in place..end + 1 {
-        carried = exchange(places, i, carried);
+    let place = first_from(rows, identifier).unwrap_or(rows.len());
+    if place < rows.len() && rows[place].identifier() == identifier {
+        Ok(place)
+    } else {
+        Err(place)
     }
 }
 
-// The row below a place.
-fn below<T: Copy>(places: &[T], place: usize) -> T
-    requires { place + 1 < length places.now }
-    ensures { result ≡ slice_index_or places.now (place + 1) result }
+// Puts a row in at a place; those from there on move down by one, over the last.
+#[tactic(auto, using(crate::proofs::MoveLaws::moved_down))]
+pub(crate) fn insert<T: Copy>(rows: &mut [T], place: usize, row: T)
+    requires { place < length rows.old }
+    ensures { rows.new ≡ inserted place row rows.old }
 {
-    places[place + 1]
+    let last = rows.len() - 1;
+    rows.copy_within(place..last, place + 1);
+    rows[place] = row;
 }
 
-// Takes out the row at a place and moves those below it up by one; the place past the last row keeps what it holds.
-pub(crate) fn remove<T: Copy>(places: &mut [T], place: usize, end: usize)
-    requires { (place < end) × (end ≤ length places.old) }
-    ensures { places.new ≡ take place places.old ++ (take (end - (place + 1)) (drop (place + 1) places.old) ++ drop (end - 1) places.old) }
+// Takes out the row at a place: those below it move up by one, and the last place keeps what it holds.
+pub(crate) fn remove<T: Copy>(rows: &mut [T], place: usize)
+    requires { place < length rows.old }
+    ensures { rows.new ≡ removed place rows.old }
 {
-    for i in place..end - 1 {
-        let next = below(places, i);
-        put(places, i, next);
-    }
+    let end = rows.len();
+    rows.copy_within(place + 1..end, place);
 }

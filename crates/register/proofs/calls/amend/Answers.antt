@@ -1,33 +1,20 @@
-use Rattle.std.proofs.Common.{Ok, length, Err, ap, ◌∙◌, arith}
-use Rattle.std.proofs.lemmas.Result.{err_from_is_err_and}
-use Rattle.std.proofs.lemmas.Bool.{not-false, not-true}
-use Rattle.register.specs.declared.uses.RegisterFault.TheVariants.{Absent}
-use Rattle.register.specs.Slots.{amend_memory}
-use Rattle.register.proofs.CallAnswers.{counted, amend_row_denied, amend_absent, amend_done}
-use Rattle.register.proofs.MoveLaws.{offset_fits}
+use Rattle.std.proofs.Common.{◌++◌, length, drop, sym, ap, ◌∙◌}
+use Rattle.register.specs.Slots.{lent, accepted, stored}
+use Rattle.register.proofs.CallAnswers.{amend_leaves, amend_absent}
 use Rattle.register.proofs.calls.amend.Goals as goal
+use Rattle.sources.specs.Models.{meanings}
 
-pub returns-in_err-check_row : goal.returns-in_err-check_row
-returns-in_err-check_row g c =
-    let p = err_from_is_err_and c.from_residual.result c.from_residual.ensures.1 in
-    let denied =
-    amend_row_denied g.S.Entry g.S.Source (record { places = c.args.slots.now; used = c.args.used }) c.args.row c.from_residual.result _ (p.1 ∙ ap Err p.2)
-    c.in_err-check_row.ensures in
-    record { answer = counted (record { places = c.args.slots.now; used = c.args.used }) (amend_memory g.S.Entry g.S.Source c.args.row (record { places = c.args.slots.now; used = c.args.used })) c.from_residual.result _ denied.0 denied.1; memory = ap (λ m. m.places) denied.1; accepts = denied.0; whole = denied.1 }
+pub returns-in_default : goal.returns-in_default
+returns-in_default g c =
+    let memory = lent c.args.slots.now c.args.used.now in
+    let refuses =
+    amend_absent (meanings g.S.Entry g.S.Source) memory c.standing-rows.result.now c.standing-rows.ensures c.args.amended c.in_ok-check_row.ensures c.identifier.result c.in_default.field-0 c.identifier.ensures
+    (sym c.in_default.is ∙ c.find.ensures) in
+    record { answer = sym (ap accepted refuses); memory = sym (ap (stored memory) refuses) }
 
-pub offset_bounds-slots-at : goal.offset_bounds-slots-at
-offset_bounds-slots-at g c = offset_fits c.locate-at.result.place (length c.args.slots.now) _ (omega arith) c.well_formed.0.1
-
-pub returns-then-not-at : goal.returns-then-not-at
-returns-then-not-at g c =
-    let denied =
-    amend_absent g.S.Entry g.S.Source (record { places = c.args.slots.now; used = c.args.used }) c.args.row c.identifier.result c.identifier.ensures c.locate-at.ensures.located
-    c.in_ok-check_row.ensures (not-true c.locate-at.result.taken c.if-not-at.true) in
-    record { answer = counted (record { places = c.args.slots.now; used = c.args.used }) (amend_memory g.S.Entry g.S.Source c.args.row (record { places = c.args.slots.now; used = c.args.used })) (Err Absent) _ denied.0 denied.1; memory = ap (λ m. m.places) denied.1; accepts = denied.0; whole = denied.1 }
-
-pub returns : goal.returns
-returns g c =
-    let done =
-    amend_done g.S.Entry g.S.Source (record { places = c.args.slots.now; used = c.args.used }) c.args.row c.identifier.result c.identifier.ensures c.locate-at.ensures.located
-    c.in_ok-check_row.ensures (not-false c.locate-at.result.taken c.if-not-at.false) c.index-slots-at.result c.amended.result c.amended.ensures _ c.replace.ensures in
-    record { answer = counted (record { places = c.args.slots.now; used = c.args.used }) (amend_memory g.S.Entry g.S.Source c.args.row (record { places = c.args.slots.now; used = c.args.used })) (Ok c.locate-at.result.count) _ done.0 done.1; memory = ap (λ m. m.places) done.1; accepts = done.0; whole = done.1 }
+pub returns-clause-memory : goal.returns-clause-memory
+returns-clause-memory g c =
+    let rows = c.standing-rows.result.now in
+    ap (λ xs. lent (xs ++ drop (length rows) c.args.slots.now) (length rows)) c.replace.ensures
+    ∙ amend_leaves (meanings g.S.Entry g.S.Source) (lent c.args.slots.now c.args.used.now) rows c.standing-rows.ensures c.args.amended c.in_ok-check_row.ensures c.identifier.result c.in-Ok.place c.identifier.ensures
+    (sym c.in-Ok.is ∙ c.find.ensures)

@@ -1,12 +1,11 @@
-use Rattle.std.proofs.Common.{◌-◌, Ok, ap}
-use Rattle.std.proofs.lemmas.Bool.{not-false}
-use Rattle.register.specs.Slots.{withdraw_memory}
-use Rattle.register.proofs.CallAnswers.{counted, withdraw_done}
+use Rattle.std.proofs.Common.{◌-◌, ◌++◌, length, drop, sym, ap, ◌∙◌}
+use Rattle.register.specs.Slots.{lent}
+use Rattle.register.proofs.CallAnswers.{withdraw_leaves}
 use Rattle.register.proofs.calls.withdraw.Goals as goal
+use Rattle.sources.specs.Models.{meanings}
 
-pub returns : goal.returns
-returns g c =
-    let done =
-    withdraw_done g.S.Entry g.S.Source (record { places = c.args.slots.now; used = c.args.used }) c.args.identifier c.locate-at.ensures.located
-    (not-false c.locate-at.result.taken c.if-not-at.false) _ c.take_out.ensures in
-    record { answer = counted (record { places = c.args.slots.now; used = c.args.used }) (withdraw_memory g.S.Entry g.S.Source c.args.identifier (record { places = c.args.slots.now; used = c.args.used })) (Ok (c.locate-at.result.count - 1)) _ done.0 done.1; memory = ap (λ m. m.places) done.1; accepts = done.0; whole = done.1 }
+pub returns-clause-memory : goal.returns-clause-memory
+returns-clause-memory g c =
+    let rows = c.standing-rows.result.now in
+    ap (λ xs. lent (xs ++ drop (length rows) c.args.slots.now) (length rows - 1)) c.take_out.ensures
+    ∙ withdraw_leaves (meanings g.S.Entry g.S.Source) (lent c.args.slots.now c.args.used.now) rows c.standing-rows.ensures c.args.identifier c.in-Ok.place (sym c.in-Ok.is ∙ c.find.ensures)
