@@ -107,22 +107,26 @@ fn respond(rows: &[Row], place: usize) -> Outcome {
 }
 
 fn row(i: u32, turn: u32) -> Row {
-    let payloads = [5 * i % 9, (5 * i + 3) % 9, (5 * i + 6) % 9, 5 * i % 9];
+    let payloads = [0, 3, 6, 9].map(|more| (5 * i + more) % 9);
     let period = 5_000 + 260 * i;
     Row::new(period, &payloads[..1 + i as usize % 4], period + turn)
 }
 
+// A number for the verdict, the bound and the round count, added up.
+fn total(outcome: Outcome) -> u64 {
+    let (verdict, bound, rounds) = match outcome {
+        Outcome::Ok { bound, rounds } => (1, bound, rounds),
+        Outcome::Late { bound, rounds } => (2, bound, rounds),
+        Outcome::None { rounds } => (3, 0, rounds),
+    };
+    verdict + u64::from(bound) + u64::from(rounds)
+}
+
+// The totals of all rows, added up.
 fn answers(rows: &[Row]) -> u64 {
-    let mut sum = 0;
-    for place in 0..rows.len() {
-        let (verdict, bound, rounds) = match respond(rows, place) {
-            Outcome::Ok { bound, rounds } => (1, bound, rounds),
-            Outcome::Late { bound, rounds } => (2, bound, rounds),
-            Outcome::None { rounds } => (3, 0, rounds),
-        };
-        sum += verdict + u64::from(bound) + u64::from(rounds);
-    }
-    sum
+    (0..rows.len())
+        .map(|place| total(respond(rows, place)))
+        .sum()
 }
 
 fn main() {
@@ -132,15 +136,16 @@ fn main() {
     };
     let table = |turn| -> Vec<Row> { (0..ROWS).map(|i| row(i, turn)).collect() };
     let mut sum = answers(&table(0));
-    let mut shortest = u128::MAX;
+    let mut shortest = None;
     for turn in 0..turns {
         let rows = table(turn);
         let begin = Instant::now();
         sum += answers(&rows);
-        shortest = shortest.min(begin.elapsed().as_nanos());
+        let time = begin.elapsed().as_nanos();
+        shortest = Some(shortest.map_or(time, |best: u128| best.min(time)));
     }
     println!("{sum}");
-    if turns > 0 {
-        println!("{shortest}");
+    if let Some(nanos) = shortest {
+        println!("{nanos}");
     }
 }

@@ -1,50 +1,30 @@
 // Rows that come in bursts.
-use crate::results::{answer, made};
+use crate::results::{parts, row};
 use frames::{Extended, Standard};
-use response::{Row, respond};
+use response::{Verdict, respond};
 use sources::Burst;
 use std::test::Fail;
 
 #[test]
 fn the_last_of_six_instances_responds_last(rt: HostRuntime) -> Result<(), Fail> {
-    let above = made(Burst::new(Standard, 1, 400, 2, 1, &[8]))?;
-    let own = made(Burst::new(Standard, 2, 600, 3, 20, &[0]))?;
     let rows = [
-        Row {
-            source: above,
-            deadline: 323,
-        },
-        Row {
-            source: own,
-            deadline: 500,
-        },
+        row(Burst::new(Standard, 1, 400, 2, 1, &[8])?, 323),
+        row(Burst::new(Standard, 2, 600, 3, 20, &[0])?, 500),
     ];
-    assert_eq!(rt; answer(respond(&rows, 0))?, ("late", 324, 4));
-    assert_eq!(rt; answer(respond(&rows, 1))?, ("ok", 500, 15));
+    assert_eq!(rt; parts(respond(&rows, 0)?), (Verdict::Late, 324, 4));
+    assert_eq!(rt; parts(respond(&rows, 1)?), (Verdict::Ok, 500, 15));
     Ok(())
 }
 
 #[test]
 fn bursts_of_extended_frames(rt: HostRuntime) -> Result<(), Fail> {
-    let first = made(Burst::new(Extended, 70_000, 1_000, 3, 10, &[8]))?;
-    let second = made(Burst::new(Extended, 70_001, 1_200, 2, 100, &[0]))?;
-    let third = made(Burst::new(Extended, 70_002, 2_000, 4, 50, &[4]))?;
     let rows = [
-        Row {
-            source: first,
-            deadline: 580,
-        },
-        Row {
-            source: second,
-            deadline: 679,
-        },
-        Row {
-            source: third,
-            deadline: 2_000,
-        },
+        row(Burst::new(Extended, 70_000, 1_000, 3, 10, &[8])?, 580),
+        row(Burst::new(Extended, 70_001, 1_200, 2, 100, &[0])?, 679),
+        row(Burst::new(Extended, 70_002, 2_000, 4, 50, &[4])?, 2_000),
     ];
-    assert_eq!(rt; answer(respond(&rows, 0))?, ("ok", 580, 5));
-    assert_eq!(rt; answer(respond(&rows, 1))?, ("late", 680, 5));
-    assert_eq!(rt; answer(respond(&rows, 2))?, ("ok", 1_610, 14));
+    assert_eq!(rt; parts(respond(&rows, 0)?), (Verdict::Ok, 580, 5));
+    assert_eq!(rt; parts(respond(&rows, 1)?), (Verdict::Late, 680, 5));
+    assert_eq!(rt; parts(respond(&rows, 2)?), (Verdict::Ok, 1_610, 14));
     Ok(())
 }

@@ -1,4 +1,5 @@
-// Tests of the analysis of a row: tables that were worked out apart, both ends of every range, and the order of the refusals.
+// Tests of the analysis of a row: tables that were worked out apart, both ends of every range, the order of the refusals, and the words
+// for verdicts.
 #![tactic(auto)]
 
 #[cfg(test)]
@@ -11,3 +12,5 @@ mod held_up_rows;
 mod refusals;
 #[cfg(test)]
 mod results;
+#[cfg(test)]
+mod words;

@@ -1,13 +1,12 @@
 // Answers that were worked out apart: by trying every start of a cycle, and by sending as early as the rules allow.
-use crate::results::made;
 use frames::{Extended, Standard};
 use sources::{Burst, Cyclic, Entry, HeldUp, Source};
 use std::test::Fail;
 
 #[test]
 fn work_over_several_rounds(rt: HostRuntime) -> Result<(), Fail> {
-    let three = made(Cyclic::new(Standard, 1, 200, &[2, 4, 1]))?;
-    let five = made(Cyclic::new(Extended, 1, 200, &[8, 0, 3, 8, 1]))?;
+    let three = Cyclic::new(Standard, 1, 200, &[2, 4, 1])?;
+    let five = Cyclic::new(Extended, 1, 200, &[8, 0, 3, 8, 1])?;
     for (k, short, long) in [
         (0, 0, 0),
         (1, 95, 160),
@@ -27,7 +26,7 @@ fn work_over_several_rounds(rt: HostRuntime) -> Result<(), Fail> {
         (2_000_002, 156_666_745, 240_000_160),
         (4_294_967_295, 156_666_745, 240_000_160),
     ] {
-        assert_eq!(rt; (three.work(k), five.work(k)), (short, long), "{}", k);
+        assert_eq!(rt; (three.work(k), five.work(k)), (short, long), "{k}");
     }
     Ok(())
 }
@@ -38,8 +37,8 @@ fn work_of_the_longest_cycle(rt: HostRuntime) -> Result<(), Fail> {
     payloads[0] = 8;
     payloads[15] = 7;
     payloads[31] = 8;
-    let standard = made(Cyclic::new(Standard, 1, 100, &payloads))?;
-    let extended = made(Cyclic::new(Extended, 1, 100, &payloads))?;
+    let standard = Cyclic::new(Standard, 1, 100, &payloads)?;
+    let extended = Cyclic::new(Extended, 1, 100, &payloads)?;
     for (k, short, long) in [
         (1, 135, 160),
         (2, 270, 320),
@@ -54,19 +53,14 @@ fn work_of_the_longest_cycle(rt: HostRuntime) -> Result<(), Fail> {
         (66, 4_250, 5_900),
         (2_000_001, 124_375_135, 174_375_160),
     ] {
-        assert_eq!(rt;
-            (standard.work(k), extended.work(k)),
-            (short, long),
-            "{}",
-            k
-        );
+        assert_eq!(rt; (standard.work(k), extended.work(k)), (short, long), "{k}");
     }
     Ok(())
 }
 
 #[test]
 fn gaps_and_counts_of_a_cyclic_source(rt: HostRuntime) -> Result<(), Fail> {
-    let source = made(Cyclic::new(Standard, 7, 200, &[2, 4, 1]))?;
+    let source = Cyclic::new(Standard, 7, 200, &[2, 4, 1])?;
     assert_eq!(rt; (source.identifier(), source.jitter()), (7, 0));
     for (q, gap) in [
         (0, 0),
@@ -77,7 +71,7 @@ fn gaps_and_counts_of_a_cyclic_source(rt: HostRuntime) -> Result<(), Fail> {
         (10_001, 2_000_001),
         (4_294_967_295, 2_000_001),
     ] {
-        assert_eq!(rt; source.gap(q), gap, "{}", q);
+        assert_eq!(rt; source.gap(q), gap, "{q}");
     }
     for (x, count) in [
         (0, 0),
@@ -92,15 +86,15 @@ fn gaps_and_counts_of_a_cyclic_source(rt: HostRuntime) -> Result<(), Fail> {
         (2_000_002, 10_001),
         (4_294_967_295, 10_001),
     ] {
-        assert_eq!(rt; source.count(x), count, "{}", x);
+        assert_eq!(rt; source.count(x), count, "{x}");
     }
     Ok(())
 }
 
 #[test]
 fn gaps_work_and_counts_of_bursts(rt: HostRuntime) -> Result<(), Fail> {
-    let three = made(Burst::new(Extended, 70_000, 1_000, 3, 10, &[8]))?;
-    let sixteen = made(Burst::new(Standard, 9, 1_000_000, 16, 62_500, &[0]))?;
+    let three = Burst::new(Extended, 70_000, 1_000, 3, 10, &[8])?;
+    let sixteen = Burst::new(Standard, 9, 1_000_000, 16, 62_500, &[0])?;
     assert_eq!(rt; (three.identifier(), three.jitter()), (70_000, 0));
     for (q, few, many) in [
         (0, 0, 0),
@@ -118,7 +112,7 @@ fn gaps_work_and_counts_of_bursts(rt: HostRuntime) -> Result<(), Fail> {
         (6_001, 2_000_001, 2_000_001),
         (4_294_967_295, 2_000_001, 2_000_001),
     ] {
-        assert_eq!(rt; (three.gap(q), sixteen.gap(q)), (few, many), "{}", q);
+        assert_eq!(rt; (three.gap(q), sixteen.gap(q)), (few, many), "{q}");
     }
     for (k, long, short) in [
         (0, 0, 0),
@@ -127,7 +121,7 @@ fn gaps_work_and_counts_of_bursts(rt: HostRuntime) -> Result<(), Fail> {
         (2_000_001, 320_000_160, 110_000_055),
         (2_000_002, 320_000_160, 110_000_055),
     ] {
-        assert_eq!(rt; (three.work(k), sixteen.work(k)), (long, short), "{}", k);
+        assert_eq!(rt; (three.work(k), sixteen.work(k)), (long, short), "{k}");
     }
     for (x, few, many) in [
         (0, 0, 0),
@@ -152,14 +146,14 @@ fn gaps_work_and_counts_of_bursts(rt: HostRuntime) -> Result<(), Fail> {
         (2_000_002, 6_001, 33),
         (4_294_967_295, 6_001, 33),
     ] {
-        assert_eq!(rt; (three.count(x), sixteen.count(x)), (few, many), "{}", x);
+        assert_eq!(rt; (three.count(x), sixteen.count(x)), (few, many), "{x}");
     }
     Ok(())
 }
 
 #[test]
 fn a_source_held_up_three_times(rt: HostRuntime) -> Result<(), Fail> {
-    let source = made(Cyclic::new(Standard, 7, 200, &[2, 4, 1]))?;
+    let source = Cyclic::new(Standard, 7, 200, &[2, 4, 1])?;
     for (first, second, third, jitter) in [
         (0, 0, 0, 0),
         (1, 20, 300, 321),
@@ -169,10 +163,10 @@ fn a_source_held_up_three_times(rt: HostRuntime) -> Result<(), Fail> {
         (1_000_000, 1, 0, 1_000_001),
         (1_000_000, 1_000_000, 1_000_000, 1_000_001),
     ] {
-        let once = made(HeldUp::new(source, first))?;
-        let twice = made(HeldUp::new(once, second))?;
-        let held = made(HeldUp::new(twice, third))?;
-        assert_eq!(rt; held.jitter(), jitter, "{}", third);
+        let once = HeldUp::new(source, first)?;
+        let twice = HeldUp::new(once, second)?;
+        let held = HeldUp::new(twice, third)?;
+        assert_eq!(rt; held.jitter(), jitter, "{third}");
         assert_eq!(rt; (held.identifier(), held.gap(10_001)), (7, 2_000_001));
         assert_eq!(rt; (held.work(4), held.count(401)), (330, 3));
     }

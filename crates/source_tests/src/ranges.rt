@@ -1,15 +1,31 @@
 // The last value that is accepted and the first that is refused, at both ends of every range.
-use crate::results::{made, refusal};
+use crate::results::refusal;
 use frames::{Extended, Standard};
 use sources::{Burst, Cyclic, HeldUp};
 use std::test::Fail;
+
+// The refusals of a cyclic source in the standard and in the extended format.
+fn cyclic(period: u32, payloads: &[u8]) -> (u8, u8) {
+    (
+        refusal(Cyclic::new(Standard, 1, period, payloads)),
+        refusal(Cyclic::new(Extended, 1, period, payloads)),
+    )
+}
+
+// The refusals of a burst source in the standard and in the extended format.
+fn burst(period: u32, size: u32, spacing: u32, payloads: &[u8]) -> (u8, u8) {
+    (
+        refusal(Burst::new(Standard, 1, period, size, spacing, payloads)),
+        refusal(Burst::new(Extended, 1, period, size, spacing, payloads)),
+    )
+}
 
 #[test]
 fn identifiers_up_to_the_highest_of_the_format(rt: HostRuntime) {
     for (identifier, number) in [(0, 0), (2_047, 0), (2_048, 11), (65_535, 11)] {
         let cyclic = refusal(Cyclic::new(Standard, identifier, 100, &[8]));
         let burst = refusal(Burst::new(Standard, identifier, 100, 1, 1, &[8]));
-        assert_eq!(rt; (cyclic, burst), (number, number), "{}", identifier);
+        assert_eq!(rt; (cyclic, burst), (number, number), "{identifier}");
     }
     for (identifier, number) in [
         (0, 0),
@@ -19,7 +35,7 @@ fn identifiers_up_to_the_highest_of_the_format(rt: HostRuntime) {
     ] {
         let cyclic = refusal(Cyclic::new(Extended, identifier, 100, &[8]));
         let burst = refusal(Burst::new(Extended, identifier, 100, 1, 1, &[8]));
-        assert_eq!(rt; (cyclic, burst), (number, number), "{}", identifier);
+        assert_eq!(rt; (cyclic, burst), (number, number), "{identifier}");
     }
 }
 
@@ -33,9 +49,7 @@ fn periods_of_both_sources(rt: HostRuntime) {
         (1_000_001, 12),
         (4_294_967_295, 12),
     ] {
-        let standard = refusal(Cyclic::new(Standard, 1, period, &[8]));
-        let extended = refusal(Cyclic::new(Extended, 1, period, &[8]));
-        assert_eq!(rt; (standard, extended), (number, number), "{}", period);
+        assert_eq!(rt; cyclic(period, &[8]), (number, number), "{period}");
     }
     for (size, period, number) in [
         (1, 0, 12),
@@ -52,44 +66,25 @@ fn periods_of_both_sources(rt: HostRuntime) {
         (17, 1_699, 12),
         (4_294_967_295, 4_294_967_295, 12),
     ] {
-        let standard = refusal(Burst::new(Standard, 1, period, size, 1, &[8]));
-        let extended = refusal(Burst::new(Extended, 1, period, size, 1, &[8]));
-        assert_eq!(rt; (standard, extended), (number, number), "{}", period);
+        assert_eq!(rt; burst(period, size, 1, &[8]), (number, number), "{period}");
     }
 }
 
 #[test]
 fn payload_counts_and_sizes(rt: HostRuntime) {
-    assert_eq!(rt; refusal(Cyclic::new(Standard, 1, 100, &[])), 13);
-    assert_eq!(rt; refusal(Cyclic::new(Standard, 1, 100, &[8; 33])), 13);
-    assert_eq!(rt; refusal(Burst::new(Standard, 1, 100, 1, 1, &[])), 13);
-    assert_eq!(rt; refusal(Burst::new(Standard, 1, 100, 1, 1, &[8, 8])), 13);
+    assert_eq!(rt; cyclic(100, &[]), (13, 13));
+    assert_eq!(rt; cyclic(100, &[8; 33]), (13, 13));
+    assert_eq!(rt; burst(100, 1, 1, &[]), (13, 13));
+    assert_eq!(rt; burst(100, 1, 1, &[8, 8]), (13, 13));
     for (payload, number) in [(0, 0), (8, 0), (9, 14), (255, 14)] {
         let mut first = [0; 32];
         first[0] = payload;
         let mut last = [8; 32];
         last[31] = payload;
-        assert_eq!(rt;
-            refusal(Cyclic::new(Standard, 1, 100, &[payload])),
-            number,
-            "{}",
-            payload
-        );
-        assert_eq!(rt;
-            refusal(Cyclic::new(Standard, 1, 100, &first)),
-            number,
-            "{}",
-            payload
-        );
-        assert_eq!(rt;
-            refusal(Cyclic::new(Extended, 1, 100, &last)),
-            number,
-            "{}",
-            payload
-        );
-        let standard = refusal(Burst::new(Standard, 1, 100, 1, 1, &[payload]));
-        let extended = refusal(Burst::new(Extended, 1, 100, 1, 1, &[payload]));
-        assert_eq!(rt; (standard, extended), (number, number), "{}", payload);
+        assert_eq!(rt; cyclic(100, &[payload]), (number, number), "{payload}");
+        assert_eq!(rt; cyclic(100, &first), (number, number), "{payload}");
+        assert_eq!(rt; cyclic(100, &last), (number, number), "{payload}");
+        assert_eq!(rt; burst(100, 1, 1, &[payload]), (number, number), "{payload}");
     }
 }
 
@@ -111,21 +106,23 @@ fn sizes_and_spacings_of_a_burst(rt: HostRuntime) {
         (1_000_000, 1, 1_000_001, 15),
         (1_000_000, 16, 4_294_967_295, 15),
     ] {
-        let standard = refusal(Burst::new(Standard, 1, period, size, spacing, &[8]));
-        let extended = refusal(Burst::new(Extended, 1, period, size, spacing, &[8]));
-        assert_eq!(rt; (standard, extended), (number, number), "{}", spacing);
+        assert_eq!(rt;
+            burst(period, size, spacing, &[8]),
+            (number, number),
+            "{spacing}"
+        );
     }
 }
 
 #[test]
 fn holds(rt: HostRuntime) -> Result<(), Fail> {
     for (hold, number) in [(0, 0), (1_000_000, 0), (1_000_001, 16), (4_294_967_295, 16)] {
-        let cyclic = made(Cyclic::new(Standard, 1, 100, &[8]))?;
-        let burst = made(Burst::new(Extended, 1, 100, 1, 1, &[8]))?;
-        let held = made(HeldUp::new(cyclic, 1_000_000))?;
-        assert_eq!(rt; refusal(HeldUp::new(cyclic, hold)), number, "{}", hold);
-        assert_eq!(rt; refusal(HeldUp::new(burst, hold)), number, "{}", hold);
-        assert_eq!(rt; refusal(HeldUp::new(held, hold)), number, "{}", hold);
+        let cyclic = Cyclic::new(Standard, 1, 100, &[8])?;
+        let burst = Burst::new(Extended, 1, 100, 1, 1, &[8])?;
+        let held = HeldUp::new(cyclic, 1_000_000)?;
+        assert_eq!(rt; refusal(HeldUp::new(cyclic, hold)), number, "{hold}");
+        assert_eq!(rt; refusal(HeldUp::new(burst, hold)), number, "{hold}");
+        assert_eq!(rt; refusal(HeldUp::new(held, hold)), number, "{hold}");
     }
     Ok(())
 }

@@ -2,9 +2,8 @@
 // times, each time with other deadlines, and also prints how many nanoseconds the shortest turn took.
 #![tactic(auto)]
 
-use anyhow::anyhow;
 use frames::Standard;
-use response::{Outcome, Row, respond};
+use response::{Outcome, Row, Verdict, respond};
 use sources::Cyclic;
 use std::alloc::Global;
 use std::env;
@@ -13,49 +12,38 @@ use std::time::Instant;
 // How many rows the table has.
 const ROWS: u16 = 256;
 
-type TableRow = Row<Cyclic<Standard, u16>>;
+type Message = Cyclic<Standard>;
 
 // Row i of the table: a cycle of one to four payloads, and a period that rises from row to row.
-fn row(i: u16, turn: u32) -> anyhow::Result<TableRow> {
+fn row(i: u16, turn: u32) -> anyhow::Result<Row<Message>> {
     let n = u32::from(i);
-    let first = 5 * n;
-    let payloads = [
-        (first % 9) as u8,
-        ((first + 3) % 9) as u8,
-        ((first + 6) % 9) as u8,
-        (first % 9) as u8,
-    ];
+    let payloads = [0u8, 3, 6, 0].map(|more| ((5 * n + u32::from(more)) % 9) as u8);
     let period = 5_000 + 260 * n;
-    let Ok(source) = Cyclic::new(Standard, i, period, &payloads[0..1 + i as usize % 4]) else {
-        return Err(anyhow!("the table has a row that is refused"));
-    };
     Ok(Row {
-        source,
+        source: Cyclic::new(Standard, i, period, &payloads[..1 + i as usize % 4])?,
         deadline: period.saturating_add(turn),
     })
 }
 
-fn table(heap: Global, turn: u32) -> anyhow::Result<Vec<TableRow>> {
-    let mut rows = Vec::new(heap);
-    for i in 0..ROWS {
-        rows.push(row(i, turn)?)?;
-    }
-    Ok(rows)
+fn table(heap: Global, turn: u32) -> anyhow::Result<Vec<Row<Message>>> {
+    (0..ROWS).map(|i| row(i, turn)).try_collect(heap)
 }
 
-// A number for each verdict, and every bound and round count, added up.
-fn answers(rows: &[TableRow]) -> anyhow::Result<u64> {
+// A number for the verdict, the bound and the round count, added up. The numbers are part of the sum that is compared.
+fn total(outcome: Outcome) -> u64 {
+    let verdict = match outcome.verdict() {
+        Verdict::Ok => 1,
+        Verdict::Late => 2,
+        Verdict::None => 3,
+    };
+    verdict + u64::from(outcome.bound()) + u64::from(outcome.rounds())
+}
+
+// The totals of all rows, added up.
+fn answers(rows: &[Row<Message>]) -> anyhow::Result<u64> {
     let mut sum = 0u64;
     for place in 0..rows.len() {
-        let Ok(outcome) = respond(rows, place) else {
-            return Err(anyhow!("the analysis refused the table"));
-        };
-        let verdict = match outcome {
-            Outcome::Ok { .. } => 1,
-            Outcome::Late { .. } => 2,
-            Outcome::None { .. } => 3,
-        };
-        sum = sum.wrapping_add(verdict + u64::from(outcome.bound()) + u64::from(outcome.rounds()));
+        sum = sum.wrapping_add(total(respond(rows, place)?));
     }
     Ok(sum)
 }
@@ -66,16 +54,17 @@ fn main(rt: HostRuntime) -> anyhow::Result<()> {
         None => 0,
     };
     let mut sum = answers(&table(rt.alloc(), 0)?)?;
-    let mut shortest = u128::MAX;
+    let mut shortest = None;
     for turn in 0..turns {
         let rows = table(rt.alloc(), turn)?;
         let begin = Instant::now(&rt)?;
         sum = sum.wrapping_add(answers(&rows)?);
-        shortest = begin.elapsed(&rt)?.as_nanos().min(shortest);
+        let time = begin.elapsed(&rt)?.as_nanos();
+        shortest = Some(shortest.map_or(time, |best: u128| best.min(time)));
     }
     println!(rt; "{sum}")?;
-    if turns > 0 {
-        println!(rt; "{shortest}")?;
+    if let Some(nanos) = shortest {
+        println!(rt; "{nanos}")?;
     }
     Ok(())
 }

@@ -1,2 +1,2 @@
-pub mod WorkedProofs
 pub mod ReachedProofs
+pub mod WorkedProofs

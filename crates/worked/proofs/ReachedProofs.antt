@@ -45,14 +45,18 @@ record IsOf (run : Run) (k i place : ℕ) (s : Sending) : Type 0 where
   same_bits : (instance_of run k i).bits ≡ s.bits
   same_start : run.start k i ≡ s.start
 
+-- What holds of 0 holds of each number below 1.
+pub only_zero : (P : ℕ → Type 0) → P 0 → (i : ℕ) → i < 1 → P i
+only_zero P p = elim [ zero ↦ λ l. p | suc i ↦ λ l. absurd (omega arith) ]
+
 -- A stream of one instance that takes time and fits the cycle's entry at some start is traffic of a cyclic row.
 alone_sent : (cycle : List ℕ) (period : ℕ) (s : Sending) (start : ℕ) → 1 ≤ s.bits → s.bits ≤ entry cycle (start + 0) → CyclicTraffic cycle period (alone s)
 alone_sent cycle period s start some fit = record {
   spaced = λ i l. absurd (omega arith);
-  prompt = elim [ zero ↦ λ l. refl | suc i ↦ λ l. absurd (omega arith) ];
+  prompt = only_zero _ refl;
   start = start;
-  fits = elim [ zero ↦ λ l. fit | suc i ↦ λ l. absurd (omega arith) ];
-  takes_time = elim [ zero ↦ λ l. some | suc i ↦ λ l. absurd (omega arith) ];
+  fits = only_zero _ fit;
+  takes_time = only_zero _ some;
 }
 
 module _ (high low : Model) (upper lower : Sending) where

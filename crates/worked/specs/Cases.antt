@@ -1,16 +1,15 @@
 -- The worked cases of the definitions.
-use Rattle.std.specs.Prelude.{◌≡◌, ℕ, List, [], ◌∷◌, map}
-use Rattle.frames.specs.Frames.{longest_frame}
+use Rattle.std.specs.Prelude.{◌≡◌, ℕ, List, [], ◌∷◌}
 use Rattle.sources.specs.Counts.{count}
 use Rattle.sources.specs.Streams.{Model}
 use Rattle.sources.specs.Cycles.{cycle_work, cyclic_gap, cyclic_model}
 use Rattle.sources.specs.Bursts.{burst_gap}
 use Rattle.response.specs.Bounds.{response, ok, late, none, place}
-use Rattle.worked.specs.RegisterCases.{RegisterCase}
+use Rattle.worked.specs.RegisterCases.{standard_frames, RegisterCase}
 
 -- The frames of payloads of 2, 4 and 1 bytes in the standard format.
 abbrev pub three_frames : List ℕ
-three_frames = map (longest_frame 55) (2 ∷ 4 ∷ 1 ∷ [])
+three_frames = standard_frames (2 ∷ 4 ∷ 1 ∷ [])
 
 -- A cyclic source of these frames with a period of 200.
 pub record CyclicCase : Type 0 where
@@ -29,7 +28,7 @@ pub record BurstCase : Type 0 where
 
 -- A cyclic row in the standard format, by its payloads and its period.
 abbrev pub standard_row : List ℕ → ℕ → Model
-standard_row payloads period = cyclic_model (map (longest_frame 55) payloads) period
+standard_row payloads period = cyclic_model (standard_frames payloads) period
 
 -- Payload 4 at period 160, above payloads 1, 8 and 0 in turn at period 240.
 abbrev pub two_rows : List Model

@@ -1,4 +1,3 @@
 pub mod RegisterCases
 pub mod Cases
 pub mod Reached
-pub mod Words

@@ -1,10 +1,9 @@
 -- The worked cases of the register.
 use Rattle.std.specs.Prelude.{◌≡◌, ℕ, List, [], ◌∷◌, map}
 use Rattle.frames.specs.Frames.{longest_frame}
+use Rattle.sources.specs.Models.{Meanings}
 use Rattle.sources.specs.Cycles.{cycle_work, cyclic_gap, CyclicTraffic}
 use Rattle.sources.specs.Answers.{CyclicValues}
-use Rattle.sources.specs.declared.source.Entry as entry
-use Rattle.sources.specs.declared.source.Source as source
 use Rattle.response.specs.declared.listed.Row.{Row}
 use Rattle.response.specs.Bounds.{ok}
 use Rattle.register.specs.declared.uses.Use.{Use}
@@ -12,21 +11,23 @@ use Rattle.register.specs.declared.uses.Use.TheVariants.{Enter, Amend, Settle, L
 use Rattle.register.specs.Steps.{Reply, done, shown, denied, register_replies, reference_replies}
 
 -- What a cyclic source is, from the values that it is made of.
-abbrev pub cyclic_names : entry.Ghosts CyclicValues
-cyclic_names = record { identifier = λ c. c.identifier }
-
-abbrev pub cyclic_sources : source.Ghosts CyclicValues
+abbrev pub cyclic_sources : Meanings CyclicValues
 cyclic_sources = record {
+  identifier = λ c. c.identifier;
   gap = λ c. cyclic_gap c.period;
   work = λ c. cycle_work c.cycle;
   jitter = λ c. 0;
   traffic = λ c. CyclicTraffic c.cycle c.period;
 }
 
+-- The frames of payloads in the standard format.
+abbrev pub standard_frames : List ℕ → List ℕ
+standard_frames payloads = map (longest_frame 55) payloads
+
 -- A cyclic row in the standard format, by its identifier, its period, its deadline and its payloads.
 abbrev pub cyclic_row : ℕ → ℕ → ℕ → List ℕ → Row CyclicValues
 cyclic_row identifier period deadline payloads = record {
-  source = record { identifier = identifier; period = period; cycle = map (longest_frame 55) payloads };
+  source = record { identifier = identifier; period = period; cycle = standard_frames payloads };
   deadline = deadline;
 }
 
@@ -59,7 +60,7 @@ none_kept = amended_replies (denied 26) (denied 26) (denied 26)
 
 -- The replies of the reference model, and those of a register of three places.
 pub record RegisterCase : Type 0 where
-  pub reference_period : reference_replies cyclic_names cyclic_sources 3 longer_period ≡ two_kept
-  pub reference_payload : reference_replies cyclic_names cyclic_sources 3 shorter_payload ≡ none_kept
-  pub register_period : register_replies cyclic_names cyclic_sources 3 [] longer_period ≡ two_kept
-  pub register_payload : register_replies cyclic_names cyclic_sources 3 [] shorter_payload ≡ none_kept
+  pub reference_period : reference_replies cyclic_sources 3 longer_period ≡ two_kept
+  pub reference_payload : reference_replies cyclic_sources 3 shorter_payload ≡ none_kept
+  pub register_period : register_replies cyclic_sources 3 [] longer_period ≡ two_kept
+  pub register_payload : register_replies cyclic_sources 3 [] shorter_payload ≡ none_kept

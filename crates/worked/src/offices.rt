@@ -1,15 +1,12 @@
 // Two offices that reach the same rows in different orders.
-use anyhow::anyhow;
-use frames::{Identifier, Standard};
+use crate::rows::{Message, row};
 use register::{Answer, Slot, Use, perform};
-use response::{Outcome, Row, Verdict};
-use sources::{Cyclic, Entry, Source};
-
-// A source of an office: cyclic, in the standard format.
-type Message = Cyclic<Standard, u16>;
+use response::{Outcome, Row};
+use sources::{Entry, RowFault, Source};
+use std::io;
 
 // The rows of the bus: two upper ones, the bottom one as it is in the end, and as it was before its frame was lengthened.
-#[derive(Drop)]
+#[derive(Clone, Copy)]
 struct Bus {
     first: Row<Message>,
     second: Row<Message>,
@@ -17,165 +14,141 @@ struct Bus {
     shorter: Row<Message>,
 }
 
-// A row whose deadline is its period.
-fn row(identifier: u16, period: u32, payloads: &[u8]) -> anyhow::Result<Row<Message>> {
-    match Cyclic::new(Standard, identifier, period, payloads) {
-        Ok(source) => Ok(Row {
-            source,
-            deadline: period,
-        }),
-        Err(_) => Err(anyhow!("a row of an office was refused")),
+impl Bus {
+    fn new() -> Result<Bus, RowFault> {
+        Ok(Bus {
+            first: row(16, 200, 200, &[2, 4, 1])?,
+            second: row(32, 350, 350, &[2])?,
+            bottom: row(48, 1_000, 1_000, &[5])?,
+            shorter: row(48, 1_000, 1_000, &[4])?,
+        })
     }
-}
 
-fn make_bus() -> anyhow::Result<Bus> {
-    Ok(Bus {
-        first: row(16, 200, &[2, 4, 1])?,
-        second: row(32, 350, &[2])?,
-        bottom: row(48, 1_000, &[5])?,
-        shorter: row(48, 1_000, &[4])?,
-    })
+    // The rows are entered in one go and settled.
+    fn in_one_go(&self) -> [Use<Message>; 9] {
+        [
+            Use::Enter(self.first),
+            Use::Enter(self.second),
+            Use::Enter(self.bottom),
+            Use::Settle(16),
+            Use::Settle(32),
+            Use::Settle(48),
+            Use::LookUp(16),
+            Use::LookUp(32),
+            Use::LookUp(48),
+        ]
+    }
+
+    // The upper rows are settled first, and then the bottom row's frame is lengthened.
+    fn lengthened(&self) -> [Use<Message>; 17] {
+        [
+            Use::Enter(self.first),
+            Use::Enter(self.second),
+            Use::Enter(self.shorter),
+            Use::Settle(16),
+            Use::Settle(32),
+            Use::LookUp(16),
+            Use::LookUp(32),
+            Use::Amend(self.bottom),
+            Use::LookUp(16),
+            Use::LookUp(32),
+            Use::LookUp(48),
+            Use::Settle(48),
+            Use::Settle(32),
+            Use::Settle(16),
+            Use::LookUp(16),
+            Use::LookUp(32),
+            Use::LookUp(48),
+        ]
+    }
 }
 
 // Shows a row by its identifier, its deadline and its longest frame.
-fn show_row(rt: &impl Print, action: &str, row: &Row<Message>) -> anyhow::Result<()> {
+fn show_row(rt: &impl Print, action: &str, row: &Row<Message>) -> io::Result<()> {
     let identifier = row.source.identifier();
     let deadline = row.deadline;
     let longest = row.source.work(1);
-    print!(rt; "  {action} {identifier}, deadline {deadline}, longest frame {longest}: ")?;
-    Ok(())
+    print!(rt; "  {action} {identifier}, deadline {deadline}, longest frame {longest}: ")
 }
 
-// Shows a use.
-fn show_use(rt: &impl Print, action: &Use<Message>) -> anyhow::Result<()> {
+fn show_use(rt: &impl Print, action: &Use<Message>) -> io::Result<()> {
     match action {
-        Use::Enter(row) => show_row(rt, "enter", row)?,
-        Use::Amend(row) => show_row(rt, "amend", row)?,
-        Use::Withdraw(identifier) => print!(rt; "  withdraw {identifier}: ")?,
-        Use::Settle(identifier) => print!(rt; "  settle {identifier}: ")?,
-        Use::LookUp(identifier) => print!(rt; "  look up {identifier}: ")?,
+        Use::Enter(row) => show_row(rt, "enter", row),
+        Use::Amend(row) => show_row(rt, "amend", row),
+        Use::Withdraw(identifier) => print!(rt; "  withdraw {identifier}: "),
+        Use::Settle(identifier) => print!(rt; "  settle {identifier}: "),
+        Use::LookUp(identifier) => print!(rt; "  look up {identifier}: "),
     }
-    Ok(())
 }
 
-// Shows verdict, bound and round count.
-fn show_outcome(rt: &impl Print, outcome: Outcome) -> anyhow::Result<()> {
-    let bound = outcome.bound();
-    let rounds = outcome.rounds();
-    match outcome.verdict() {
-        Verdict::Ok => println!(rt; "ok, bound {bound}, rounds {rounds}")?,
-        Verdict::Late => println!(rt; "late, bound {bound}, rounds {rounds}")?,
-        Verdict::None => println!(rt; "none, rounds {rounds}")?,
+// Shows the verdict, the bound if there is one, and the round count.
+fn show_outcome(rt: &impl Print, outcome: Outcome) -> io::Result<()> {
+    let verdict = outcome.verdict();
+    match outcome {
+        Outcome::Ok { bound, rounds } | Outcome::Late { bound, rounds } => println!(rt;
+            "{verdict}, bound {bound}, rounds {rounds}"
+        ),
+        Outcome::None { rounds } => println!(rt; "{verdict}, rounds {rounds}"),
     }
-    Ok(())
 }
 
-// Shows the answer to a use.
-fn show_answer(rt: &impl Print, answer: Answer) -> anyhow::Result<()> {
+fn show_answer(rt: &impl Print, answer: Answer) -> io::Result<()> {
     match answer {
-        Answer::Done => println!(rt; "done")?,
-        Answer::Shown(outcome) => show_outcome(rt, outcome)?,
-        Answer::Refused(fault) => {
-            let number = fault.number();
-            println!(rt; "refused with {number}")?
-        }
+        Ok(None) => println!(rt; "done"),
+        Ok(Some(outcome)) => show_outcome(rt, outcome),
+        Err(fault) => println!(rt; "refused with {}", fault.number()),
     }
-    Ok(())
 }
 
 // Performs the uses of an office on its memory, and shows each with its answer.
-fn play(rt: &impl Print, slots: &mut [Slot<Message>], uses: &[Use<Message>]) -> anyhow::Result<()> {
-    let mut answers = [Answer::Done; 32];
-    let count = perform(slots, uses, &mut answers);
-    for i in 0..count {
-        show_use(rt, &uses[i])?;
-        show_answer(rt, answers[i])?;
+fn play<const N: usize>(
+    rt: &impl Print,
+    slots: &mut [Slot<Message>],
+    uses: &[Use<Message>; N],
+) -> io::Result<()> {
+    let mut answers = [Ok(None); N];
+    perform(slots, uses, &mut answers);
+    for (action, answer) in uses.iter().zip(answers) {
+        show_use(rt, action)?;
+        show_answer(rt, answer)?;
     }
     Ok(())
 }
 
 // Shows of each row of one register whether the other shows the same for it.
-fn compare(
-    rt: &impl Print,
-    ours: &[Slot<Message>],
-    theirs: &[Slot<Message>],
-) -> anyhow::Result<()> {
+fn compare(rt: &impl Print, ours: &[Slot<Message>], theirs: &[Slot<Message>]) -> io::Result<()> {
     for our in ours {
         let identifier = our.identifier();
-        for their in theirs {
-            if their.identifier() == identifier {
-                if our.shown() == their.shown() {
-                    println!(rt; "  {identifier}: the same")?;
-                } else {
-                    println!(rt; "  {identifier}: different")?;
-                }
-            }
+        if let Some(their) = theirs.iter().find(|their| their.identifier() == identifier) {
+            let word = if our.shown() == their.shown() {
+                "the same"
+            } else {
+                "different"
+            };
+            println!(rt; "  {identifier}: {word}")?;
         }
     }
     Ok(())
 }
 
-fn play_first(rt: &impl Print, bus: &Bus, slots: &mut [Slot<Message>]) -> anyhow::Result<()> {
-    println!(rt; "office A enters the rows in one go and settles them")?;
-    play(
-        rt,
-        slots,
-        &[
-            Use::Enter(bus.first),
-            Use::Enter(bus.second),
-            Use::Enter(bus.bottom),
-            Use::Settle(16),
-            Use::Settle(32),
-            Use::Settle(48),
-            Use::LookUp(16),
-            Use::LookUp(32),
-            Use::LookUp(48),
-        ],
-    )
-}
-
-fn play_second(rt: &impl Print, bus: &Bus, slots: &mut [Slot<Message>]) -> anyhow::Result<()> {
-    println!(rt;
-        "office B settles the upper rows first and then lengthens the bottom row's frame"
-    )?;
-    play(
-        rt,
-        slots,
-        &[
-            Use::Enter(bus.first),
-            Use::Enter(bus.second),
-            Use::Enter(bus.shorter),
-            Use::Settle(16),
-            Use::Settle(32),
-            Use::LookUp(16),
-            Use::LookUp(32),
-            Use::Amend(bus.bottom),
-            Use::LookUp(16),
-            Use::LookUp(32),
-            Use::LookUp(48),
-            Use::Settle(48),
-            Use::Settle(32),
-            Use::Settle(16),
-            Use::LookUp(16),
-            Use::LookUp(32),
-            Use::LookUp(48),
-        ],
-    )
-}
-
 // Plays both offices and compares their registers, both ways.
 pub fn play_offices(rt: &impl Print) -> anyhow::Result<()> {
-    let bus = make_bus()?;
+    let bus = Bus::new()?;
     let place = Slot {
         row: bus.first,
         outcome: None,
     };
     let mut ours = [place; 3];
     let mut theirs = [place; 3];
-    play_first(rt, &bus, &mut ours)?;
-    play_second(rt, &bus, &mut theirs)?;
+    println!(rt; "office A enters the rows in one go and settles them")?;
+    play(rt, &mut ours, &bus.in_one_go())?;
+    println!(rt;
+        "office B settles the upper rows first and then lengthens the bottom row's frame"
+    )?;
+    play(rt, &mut theirs, &bus.lengthened())?;
     println!(rt; "what A shows, at B")?;
     compare(rt, &ours, &theirs)?;
     println!(rt; "what B shows, at A")?;
-    compare(rt, &theirs, &ours)
+    compare(rt, &theirs, &ours)?;
+    Ok(())
 }
