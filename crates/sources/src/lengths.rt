@@ -22,7 +22,7 @@ impl Lengths {
         ensures { take result.size result.places ≡ map F.Format.longest payloads.now }
     {
         let mut places = [0; 32];
-        // By index, as nothing is known of what an adapter of `iter_mut` writes.
+        // By index, as nothing is known of what a zip with `iter_mut` writes.
         for (i, payload) in payloads.iter().enumerate() {
             places[i] = F::longest_frame(*payload);
         }

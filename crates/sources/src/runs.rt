@@ -12,7 +12,7 @@ impl Lengths {
     {
         let cycle = self.as_slice();
         let mut sums = [0; 65];
-        // By index: each sum is read again for the next one.
+        // By index: the cycle chained with itself and counted, with the sum beside it, would write by an index as well.
         for i in 0..2 * cycle.len() {
             sums[i + 1] = sums[i] + cycle[i % cycle.len()];
         }
@@ -40,9 +40,9 @@ impl Lengths {
     {
         let sums = self.running_sums();
         let mut most = [0; 33];
-        // By index: nothing is known of what an adapter of `iter_mut` writes.
-        for k in 0..=self.as_slice().len() {
-            most[k] = self.largest_run(&sums, k);
+        let count = self.as_slice().len();
+        for (k, place) in most[..=count].iter_mut().enumerate() {
+            *place = self.largest_run(&sums, k);
         }
         most
     }
