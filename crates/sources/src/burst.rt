@@ -98,6 +98,7 @@ impl<F> Source for Burst<F> {
         0
     }
 
+    #[tactic(auto, using(crate::specs::BurstLaws::burst_count_is))]
     fn count(&self, x: u32) -> u32
         ensures value { result ≡ count (burst_gap self.now.volley.size self.now.volley.spacing self.now.volley.period) (argument x) }
         ensures closed { result ≡ burst_count self.now.volley.size self.now.volley.spacing self.now.volley.period (argument x) }

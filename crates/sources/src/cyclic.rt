@@ -91,6 +91,7 @@ impl<F> Source for Cyclic<F> {
         0
     }
 
+    #[tactic(auto, using(crate::specs::CyclicLaws::cyclic_count))]
     fn count(&self, x: u32) -> u32
         ensures value { result ≡ count (cyclic_gap self.now.cycle.period) (argument x) }
         ensures closed { result ≡ (argument x + (self.now.cycle.period - 1)) / self.now.cycle.period }
