@@ -33,6 +33,7 @@ pub(crate) fn unsettle_above<S: Source + Copy>(above: &mut [Slot<S>], before: u3
 }
 
 // The longest frame of rows, or 0: that of the analysis, as the register's definitions have it.
+#[tactic(auto, using(crate::proofs::Invariant::longest_models))]
 fn longest_in<S: Source>(rows: &[Slot<S>]) -> u32
     ensures { result ≡ longest (frame S.Source slot_kind) rows.now }
 {

@@ -80,6 +80,7 @@ impl<F> Source for Cyclic<F> {
         self.cycle.gap(q)
     }
 
+    #[tactic(auto, using(crate::specs::CyclesLemmas::cycle_work_closed))]
     fn work(&self, k: u32) -> u32
         ensures value { result ≡ cycle_work (lengths_of self.now.cycle.lengths) (argument k) }
         ensures rounds { WholeRounds (lengths_of self.now.cycle.lengths) }
