@@ -21,6 +21,12 @@ checked_past [] ds u v e = refl
 checked_past ((true, k) ∷ cs) ds u v e = let z : ◌≡◌ {A = ℕ} 0 1 = cc in absurd (omega arith)
 checked_past ((false, k) ∷ cs) ds u v e = checked_past cs ds u v e
 
+-- What the first checks refuse is refused.
+checked_first : {U V : Type 0} (cs ds : List (Bool × ℕ)) (u : U) (v : V) (n : ℕ) → refused n ≡ checked cs u → checked (cs ++ ds) v ≡ refused n
+checked_first [] ds u v n e = let z : ◌≡◌ {A = ℕ} 0 1 = cc in absurd (omega arith)
+checked_first ((true, k) ∷ cs) ds u v n e = let same : k ≡ n = cc in ap refused same
+checked_first ((false, k) ∷ cs) ds u v n e = checked_first cs ds u v n e
+
 -- Where there is room for one row more, there is a place for it.
 pub room_left : (places count : ℕ) → full places count ≡ false → count < places
 room_left places count free = leb-false places count (or_parts (leb 256 count) (leb places count) free).1

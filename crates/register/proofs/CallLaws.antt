@@ -5,7 +5,7 @@ use Rattle.sources.specs.Models.{Meanings}
 use Rattle.sources.specs.Answers.{Answer, made, refused, checked, outside}
 use Rattle.sources.proofs.AnswerChecks.{NoFault}
 use Rattle.response.specs.Searches.{horizon}
-use Rattle.register.specs.Calls.{Kind, is_in, enter_checks, amend_checks}
+use Rattle.register.specs.Calls.{Kind, is_in, enter_checks, amend_checks, withdraw_checks}
 
 -- What holds of an answer, as each check passes or some check does not.
 pub checked_cases : {V : Type 0} (P : Answer V → Type 0) (cs : List (Bool × ℕ)) (v : V) → (NoFault cs → P (made v)) → ((n : ℕ) → P (refused n)) → P (checked cs v)
@@ -63,3 +63,7 @@ module _ {S A : Type 0} (sources : Meanings S) (kind : Kind S A) where
         jitter = ltb-false horizon (sources.jitter s) passed.1.0;
         has = not-false (is_in sources kind (sources.identifier s) rows) passed.1.1.0;
       }
+
+  -- Where no check of withdraw finds a fault, there is such a row.
+  pub withdraw_passed : (id : ℕ) (rows : List A) → NoFault (withdraw_checks sources kind id rows) → is_in sources kind id rows ≡ true
+  withdraw_passed id rows passed = not-false (is_in sources kind id rows) passed.0

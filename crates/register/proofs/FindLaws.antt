@@ -29,14 +29,23 @@ module _ {A : Type 0} (key : A → ℕ) (k : ℕ) where
       (λ h. ap (λ b. unwrap_or (cond b (Some n) None) (length rows)) (le-ltb n (length rows) h) ∙ omega (arith, first_not_lower rows, place_within key k rows))
       (cases_lt n (length rows))
 
+  -- Whether the rows from one on start with the key.
+  module _ (rows : List A) (i : ℕ) where
+    pub starts_none : length rows ≤ i → starts_with key k (drop i rows) ≡ false
+    starts_none past = at_drop_all (starts_with key k) rows i past
+
+    module _ (a : A) (inside : i < length rows) (is : a ≡ get_or rows i a) where
+      pub starts_here : starts_with key k (drop i rows) ≡ eqb (key a) k
+      starts_here = at_drop_more (starts_with key k) rows i a inside ∙ ap (λ x. eqb (key x) k) (sym is)
+
   module _ (rows : List A) (place : ℕ) where
     -- Where the place is that of the key, what is found there.
     module _ (is : place ≡ place_of key k rows) where
       pub has_at : (a : A) → place < length rows → a ≡ get_or rows place a → has key k rows ≡ eqb (key a) k
-      has_at a inside at = ap (λ n. starts_with key k (drop n rows)) (sym is) ∙ at_drop_more (starts_with key k) rows place a inside ∙ ap (λ x. eqb (key x) k) (sym at)
+      has_at a inside at = ap (λ n. starts_with key k (drop n rows)) (sym is) ∙ starts_here rows place a inside at
 
       pub has_past : length rows ≤ place → has key k rows ≡ false
-      has_past past = ap (λ n. starts_with key k (drop n rows)) (sym is) ∙ at_drop_all (starts_with key k) rows place past
+      has_past past = ap (λ n. starts_with key k (drop n rows)) (sym is) ∙ starts_none rows place past
 
       found_as : (b : Bool) → has key k rows ≡ b → elim b [ true ↦ Ok place | false ↦ Err place ] ≡ found_in key k rows
       found_as b has_it =

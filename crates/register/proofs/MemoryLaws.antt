@@ -1,10 +1,14 @@
 -- The rows within memory, and memory after a change of rows. Assumes nothing.
-use Rattle.std.proofs.Common.{◌≡◌, ℕ, suc, ◌+◌, ◌-◌, ◌<◌, ◌≤◌, List, [], ◌∷◌, ◌++◌, map, length, take, drop, None, sym, refl, ap, ◌∙◌, ap₂, add-one, arith}
-use Rattle.std.proofs.lemmas.List.{append_assoc, length-append, length-map, length-take, length-take-le, length-drop, take_min, take-take, take-append-drop, drop-drop}
+use Rattle.std.proofs.Common.{◌≡◌, ℕ, suc, ◌+◌, ◌-◌, ◌<◌, ◌≤◌, true, List, [], ◌∷◌, ◌++◌, map, length, get_or, take, drop, None, sym, refl, ap, ◌∙◌, ap₂, ⊎_elim, true≢false, add-one, arith}
+use Rattle.std.proofs.lemmas.List.{append_assoc, length-append, length-map, length-take, length-take-le, length-drop, take-take, get_or-take, take-append-drop, drop-drop}
+-- Taking no more than there is: the library's lemma.
+pub use Rattle.std.proofs.lemmas.List.{take_min}
+use Rattle.std.proofs.lemmas.Bool.{cases_lt}
 use Rattle.register.specs.declared.slot.Slot.{Slot}
-use Rattle.register.specs.Tables.{longest, unsettle_above, change_at, on_first}
+use Rattle.register.specs.Tables.{starts_with, longest, unsettle_above, change_at, on_first}
 use Rattle.register.specs.Calls.{frame, become}
 use Rattle.register.specs.Slots.{slots, with_outcome, Memory, lent, standing, laid}
+use Rattle.register.proofs.FindLaws.{starts_none}
 use Rattle.register.proofs.UnsettleLaws.{length_unsettle}
 use Rattle.register.proofs.MoveLaws.{back_is}
 use Rattle.sources.specs.Models.{Meanings}
@@ -12,6 +16,11 @@ use Rattle.sources.specs.Models.{Meanings}
 -- The rows, by their number.
 pub rows_by_count : {A : Type 0} (used count : ℕ) (e : List A) → count ≡ length (take used e) → take count e ≡ take used e
 rows_by_count used count e is = ap (λ n. take n e) (is ∙ length-take used e) ∙ take_min used e
+
+-- A row that has the key stands before the end.
+pub stands_within : {A : Type 0} (key : A → ℕ) (k : ℕ) (rows : List A) (i : ℕ) → starts_with key k (drop i rows) ≡ true → i < length rows
+stands_within key k rows i e =
+    ⊎_elim (λ l. l) (λ past. absurd (true≢false (sym e ∙ starts_none key k rows i past))) (cases_lt i (length rows))
 
 -- What follows the rows in memory.
 pub rows_then_rest : {A : Type 0} (count place : ℕ) (e : List A) → place ≤ count → take (count - place) (drop place e) ++ drop count e ≡ drop place e
@@ -101,3 +110,9 @@ module _ {S : Type 0} (sources : Meanings S) (memory : Memory S) (count place : 
     changed f =
         ap (λ rs. lent (change_at place f rs ++ drop count memory.places) count) front_is
         ∙ laid_so (change_at place f rows) count (change_length place f rows ∙ sym count_is)
+
+module _ {S : Type 0} (sources : Meanings S) (e : List (Slot S)) (used count place : ℕ)
+    (count_is : count ≡ length (take used e)) (in_memory : count ≤ length e) (in_rows : place ≤ count) (on_a_row : place < count) (x : Slot S) (is : x ≡ get_or e place x) where
+  -- The row at a place, among the rows.
+  pub row_is : x ≡ get_or (take used e) place x
+  row_is = is ∙ sym (get_or-take count e place x on_a_row) ∙ ap (λ rs. get_or rs place x) (rows_by_count used count e count_is)

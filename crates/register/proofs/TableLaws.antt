@@ -1,8 +1,8 @@
 -- Tables of rows that rise by a key. Assumes nothing.
-use Rattle.std.proofs.Common.{◌≡◌, ℕ, zero, suc, ◌<◌, ◌≤◌, max, Bool, true, false, eqb, ltb, ◌↔◌, List, [], ◌∷◌, ◌++◌, map, length, take, drop, sym, refl, ap, ◌∙◌, subst, ap₂, arith}
+use Rattle.std.proofs.Common.{◌≡◌, ℕ, zero, suc, ◌+◌, ◌<◌, ◌≤◌, max, Bool, true, false, eqb, ltb, ◌⊎◌, ◌↔◌, List, [], ◌∷◌, ◌++◌, map, length, get_or, take, drop, sym, refl, ap, ◌∙◌, subst, ap₂, inl, inr, ⊎_elim, arith}
 use mathlib.Core.List.{map-append}
-use Rattle.std.proofs.lemmas.List.{length-map, drop-map}
-use Rattle.std.proofs.lemmas.Bool.{ltb-true, ltb-false, eqb-true, eqb-false, false≢true}
+use Rattle.std.proofs.lemmas.List.{at_drop_more, at_drop_all, take-append-drop, length-take-le, length-map, drop-map}
+use Rattle.std.proofs.lemmas.Bool.{ltb-true, ltb-false, eqb-true, eqb-false, eq-eqb, ne_eqb, false≢true, cases_lt}
 use Rattle.register.specs.Tables.{place_of, starts_with, has, change_at, longest, unsettle_above, changed_from}
 
 -- Rows, each of which has a value of which P holds.
@@ -14,6 +14,11 @@ AllOf value P (a ∷ rest) = P (value a) × AllOf value P rest
 abbrev pub Rises : {A : Type 0} → (A → ℕ) → List A → Type 0
 Rises key [] = Unit {0}
 Rises key (a ∷ rest) = AllOf key (λ n. key a < n) rest × Rises key rest
+
+-- Some row has the key.
+abbrev pub SomeHas : {A : Type 0} → (A → ℕ) → ℕ → List A → Type 0
+SomeHas key k [] = ⊥
+SomeHas key k (a ∷ rest) = (key a ≡ k) ⊎ SomeHas key k rest
 
 -- The rows before the place of a key, those from it on, and those behind it.
 abbrev pub earlier_rows : {A : Type 0} → (A → ℕ) → ℕ → List A → List A
@@ -48,6 +53,12 @@ module _ {A V : Type 0} (value : A → V) where
     all_drop zero rows all = all
     all_drop (suc n) [] all = tt
     all_drop (suc n) (a ∷ rest) (first, later) = all_drop n rest later
+
+    -- What holds of every value holds of that at each place.
+    pub all_at : (rows : List A) (d : A) (m : ℕ) → m < length rows → AllOf value P rows → P (value (get_or rows m d))
+    all_at [] d m l all = absurd (omega arith)
+    all_at (a ∷ rest) d zero l (first, later) = first
+    all_at (a ∷ rest) d (suc m) l (first, later) = all_at rest d m (omega arith) later
 
     -- It is a matter of the values alone.
     pub all_by_values : (rows : List A) → AllOf value P rows ↔ AllOf (λ v. v) P (map value rows)
@@ -94,6 +105,30 @@ module _ {A : Type 0} (key : A → ℕ) where
     pub place_stop : (a : A) (rest : List A) → k ≤ key a → place_of key k (a ∷ rest) ≡ 0
     place_stop a rest h = at_place (λ n. n ≡ 0) a rest (λ l. absurd (omega arith)) (λ _. refl)
 
+    -- Whether a key is had does not depend on a lower one before.
+    pub has_pass : (a : A) (rest : List A) → key a < k → has key k (a ∷ rest) ≡ has key k rest
+    has_pass a rest l = ap (λ n. starts_with key k (drop n (a ∷ rest))) (place_pass a rest l)
+
+    -- A key is had by the first row that is not below it, or by none.
+    pub has_stop : (a : A) (rest : List A) → k ≤ key a → has key k (a ∷ rest) ≡ eqb (key a) k
+    has_stop a rest h = ap (λ n. starts_with key k (drop n (a ∷ rest))) (place_stop a rest h)
+
+    -- The place of a key among the rows from one on, as that one is lower or not, or there is none.
+    module _ (rows : List A) (i : ℕ) where
+      pub found_none : length rows ≤ i → place_of key k (drop i rows) ≡ 0
+      found_none past = at_drop_all (place_of key k) rows i past
+
+      module _ (a : A) (inside : i < length rows) (is : a ≡ get_or rows i a) where
+        pub found_here : ltb (key a) k ≡ false → place_of key k (drop i rows) ≡ 0
+        found_here test =
+            at_drop_more (place_of key k) rows i a inside
+            ∙ ap (λ b. elim b [ true ↦ suc (place_of key k (drop (i + 1) rows)) | false ↦ 0 ]) (ap (λ x. ltb (key x) k) (sym is) ∙ test)
+
+        pub found_later : ltb (key a) k ≡ true → place_of key k (drop i rows) ≡ suc (place_of key k (drop (i + 1) rows))
+        found_later test =
+            at_drop_more (place_of key k) rows i a inside
+            ∙ ap (λ b. elim b [ true ↦ suc (place_of key k (drop (i + 1) rows)) | false ↦ 0 ]) (ap (λ x. ltb (key x) k) (sym is) ∙ test)
+
     -- The place of a key is at most behind the last row.
     pub place_within : (rows : List A) → place_of key k rows ≤ length rows
     place_within [] = omega arith
@@ -103,6 +138,14 @@ module _ {A : Type 0} (key : A → ℕ) where
     pub earlier_below : (rows : List A) → AllOf key (λ n. n < k) (earlier_rows key k rows)
     earlier_below [] = tt
     earlier_below (a ∷ rest) = at_place (λ n. AllOf key (λ n. n < k) (take n (a ∷ rest))) a rest (λ l. (l, earlier_below rest)) (λ h. tt)
+
+    -- The keys from its place on are at least it.
+    pub later_at_least : (rows : List A) → Rises key rows → AllOf key (λ n. k ≤ n) (later_rows key k rows)
+    later_at_least [] rises = tt
+    later_at_least (a ∷ rest) (above, rises) =
+        at_place (λ n. AllOf key (λ n. k ≤ n) (drop n (a ∷ rest))) a rest
+        (λ l. later_at_least rest rises)
+        (λ h. (h, all_weaken key (λ n. key a < n) (λ n. k ≤ n) (λ n l. omega arith) rest above))
 
     -- The keys behind its place are above it.
     pub behind_above : (rows : List A) → Rises key rows → AllOf key (λ n. k < n) (rows_behind key k rows)
@@ -137,6 +180,77 @@ module _ {A : Type 0} (key : A → ℕ) where
         (λ l had. omega (arith, place_inside rest had))
         (λ h had. omega arith) is
 
+    -- A key that is had is some row's.
+    pub had_by_some : (rows : List A) → has key k rows ≡ true → SomeHas key k rows
+    had_by_some [] is = absurd (false≢true is)
+    had_by_some (a ∷ rest) is =
+        at_place (λ n. starts_with key k (drop n (a ∷ rest)) ≡ true → SomeHas key k (a ∷ rest)) a rest
+        (λ l had. inr (had_by_some rest had))
+        (λ h had. inl (eqb-true (key a) k had)) is
+
+    some_above : (rows : List A) (n : ℕ) → AllOf key (λ m. n < m) rows → SomeHas key k rows → n < k
+    some_above [] n all some = absurd some
+    some_above (a ∷ rest) n (first, later) (inl e) = omega arith
+    some_above (a ∷ rest) n (first, later) (inr some) = some_above rest n later some
+
+    -- A key of some row is had.
+    pub some_had : (rows : List A) → Rises key rows → SomeHas key k rows → has key k rows ≡ true
+    some_had [] rises some = absurd some
+    some_had (a ∷ rest) (above, rises) (inl e) = has_stop a rest (omega arith) ∙ eq-eqb (key a) k e
+    some_had (a ∷ rest) (above, rises) (inr some) = has_pass a rest (some_above rest (key a) above some) ∙ some_had rest rises some
+
+    -- A key that is below every row's is not had.
+    pub has_none : (rows : List A) → AllOf key (λ n. k < n) rows → has key k rows ≡ false
+    has_none [] all = refl
+    has_none (a ∷ rest) (first, later) = has_stop a rest (omega arith) ∙ ne_eqb (key a) k (λ e. omega arith)
+
+    -- A key that no row's is below has the first place.
+    pub place_first : (rows : List A) → AllOf key (λ n. k ≤ n) rows → place_of key k rows ≡ 0
+    place_first [] all = refl
+    place_first (a ∷ rest) (first, later) = place_stop a rest first
+
+    -- Behind rows below a key, its place is that among the later rows.
+    pub place_right : (xs ys : List A) → AllOf key (λ n. n < k) xs → place_of key k (xs ++ ys) ≡ length xs + place_of key k ys
+    place_right [] ys low = omega arith
+    place_right (x ∷ xs) ys (first, low) = place_pass x (xs ++ ys) first ∙ omega (arith, place_right xs ys low)
+
+    -- Behind rows below a key, it is had where it is had among the later rows.
+    pub has_right : (xs ys : List A) → AllOf key (λ n. n < k) xs → has key k (xs ++ ys) ≡ has key k ys
+    has_right [] ys low = refl
+    has_right (x ∷ xs) ys (first, low) = has_pass x (xs ++ ys) first ∙ has_right xs ys low
+
+    -- Rows from a key on, behind others, do not change its place.
+    pub place_left : (xs ys : List A) → AllOf key (λ n. k ≤ n) ys → place_of key k (xs ++ ys) ≡ place_of key k xs
+    place_left [] ys high = place_first ys high
+    place_left (x ∷ xs) ys high =
+        at_place (λ n. n ≡ place_of key k (x ∷ xs)) x (xs ++ ys)
+        (λ l. ap suc (place_left xs ys high) ∙ sym (place_pass x xs l))
+        (λ h. sym (place_stop x xs h))
+
+    -- Rows above a key, behind others, do not change whether it is had.
+    pub has_left : (xs ys : List A) → AllOf key (λ n. k < n) ys → has key k (xs ++ ys) ≡ has key k xs
+    has_left [] ys high = has_none ys high
+    has_left (x ∷ xs) ys high =
+        at_place (λ n. starts_with key k (drop n (x ∷ (xs ++ ys))) ≡ has key k (x ∷ xs)) x (xs ++ ys)
+        (λ l. has_left xs ys high ∙ sym (has_pass x xs l))
+        (λ h. sym (has_stop x xs h))
+
+    -- The row at the place of a key that is had has it.
+    pub row_found : (rows : List A) (d : A) → has key k rows ≡ true → key (get_or rows (place_of key k rows) d) ≡ k
+    row_found [] d is = absurd (false≢true is)
+    row_found (a ∷ rest) d is =
+        at_place (λ n. starts_with key k (drop n (a ∷ rest)) ≡ true → key (get_or (a ∷ rest) n d) ≡ k) a rest
+        (λ l had. row_found rest d had)
+        (λ h had. eqb-true (key a) k had) is
+
+  -- Each of rising rows stands at the place of its key.
+  pub place_at : (rows : List A) → Rises key rows → (m : ℕ) (d : A) → m < length rows → place_of key (key (get_or rows m d)) rows ≡ m
+  place_at [] rises m d l = absurd (omega arith)
+  place_at (a ∷ rest) (above, rises) zero d l = place_stop (key a) a rest (omega arith)
+  place_at (a ∷ rest) (above, rises) (suc m) d l =
+      let later : m < length rest = omega arith in
+      place_pass (key (get_or rest m d)) a rest (all_at key (λ n. key a < n) rest d m later above) ∙ ap suc (place_at rest rises m d later)
+
   -- Of two keys the lower has the lower place, if it is had.
   pub place_lower : (j k : ℕ) (rows : List A) → j < k → has key j rows ≡ true → place_of key j rows < place_of key k rows
   place_lower j k [] l is = absurd (false≢true is)
@@ -146,10 +260,53 @@ module _ {A : Type 0} (key : A → ℕ) where
       (λ h had. omega (arith, place_pass k a rest (omega (arith, eqb-true (key a) j had)))) is
 
   module _ (k : ℕ) (rows : List A) (rises : Rises key rows) where
+    -- Rows with others in place of those from the place of a key on, where the others are at least the key.
     module _ (after : List A) (high : AllOf key (λ n. k ≤ n) after) where
-      -- Rows with others in place of those from the place of a key on, where the others are at least the key, rise where the others do.
+      -- They rise where the others do.
       pub cut_rises : Rises key after → Rises key (earlier_rows key k rows ++ after)
       cut_rises rise = join_rises k (earlier_rows key k rows) after (take_rises (place_of key k rows) rows rises) rise (earlier_below k rows) high
+
+      -- Keys up to it have their places among the rows before it.
+      pub cut_place_low : (j : ℕ) → j ≤ k → place_of key j (earlier_rows key k rows ++ after) ≡ place_of key j (earlier_rows key k rows)
+      cut_place_low j l = place_left j (earlier_rows key k rows) after (all_weaken key (λ n. k ≤ n) (λ n. j ≤ n) (λ n h. omega arith) after high)
+
+      -- Lower keys are had where they are had among the rows before it.
+      pub cut_has_low : (j : ℕ) → j < k → has key j (earlier_rows key k rows ++ after) ≡ has key j (earlier_rows key k rows)
+      cut_has_low j l = has_left j (earlier_rows key k rows) after (all_weaken key (λ n. k ≤ n) (λ n. j < n) (λ n h. omega arith) after high)
+
+    -- The key and higher ones have their places among the others.
+    pub cut_place_high : (after : List A) (j : ℕ) → k ≤ j → place_of key j (earlier_rows key k rows ++ after) ≡ place_of key k rows + place_of key j after
+    cut_place_high after j l =
+        place_right j (earlier_rows key k rows) after (all_weaken key (λ n. n < k) (λ n. n < j) (λ n h. omega arith) (earlier_rows key k rows) (earlier_below k rows))
+        ∙ ap (λ n. n + place_of key j after) (length-take-le (place_of key k rows) rows (place_within k rows))
+
+    -- The key and higher ones are had where they are had among the others.
+    pub cut_has_high : (after : List A) (j : ℕ) → k ≤ j → has key j (earlier_rows key k rows ++ after) ≡ has key j after
+    cut_has_high after j l =
+        has_right j (earlier_rows key k rows) after (all_weaken key (λ n. n < k) (λ n. n < j) (λ n h. omega arith) (earlier_rows key k rows) (earlier_below k rows))
+
+    -- The rows themselves are such rows.
+    whole : earlier_rows key k rows ++ later_rows key k rows ≡ rows
+    whole = take-append-drop (place_of key k rows) rows
+
+    module _ (after : List A) (high : AllOf key (λ n. k ≤ n) after) (j : ℕ) where
+      -- Keys up to it keep their places.
+      pub low_place_kept : j ≤ k → place_of key j (earlier_rows key k rows ++ after) ≡ place_of key j rows
+      low_place_kept l =
+          cut_place_low after high j l ∙ sym (cut_place_low (later_rows key k rows) (later_at_least k rows rises) j l) ∙ ap (place_of key j) whole
+
+      -- Lower keys are had as they were.
+      pub low_has_kept : j < k → has key j (earlier_rows key k rows ++ after) ≡ has key j rows
+      low_has_kept l =
+          cut_has_low after high j l ∙ sym (cut_has_low (later_rows key k rows) (later_at_least k rows rises) j l) ∙ ap (has key j) whole
+
+    -- The key and higher ones have their places among the rows from its place on.
+    pub high_place : (j : ℕ) → k ≤ j → place_of key j rows ≡ place_of key k rows + place_of key j (later_rows key k rows)
+    high_place j l = ap (place_of key j) (sym whole) ∙ cut_place_high (later_rows key k rows) j l
+
+    -- The key and higher ones are had where they are had among the rows from its place on.
+    pub high_has : (j : ℕ) → k ≤ j → has key j rows ≡ has key j (later_rows key k rows)
+    high_has j l = ap (has key j) (sym whole) ∙ cut_has_high (later_rows key k rows) j l
 
     module _ (x : A) (is : key x ≡ k) where
       low_first : (after : List A) → AllOf key (λ n. k < n) after → AllOf key (λ n. k ≤ n) (x ∷ after)
@@ -166,6 +323,44 @@ module _ {A : Type 0} (key : A → ℕ) where
             cut_rises (x ∷ later_rows key k rows) (low_first (later_rows key k rows) later)
             (rises_first (later_rows key k rows) later (drop_rises (place_of key k rows) rows rises))
 
+        -- The key of an inserted row is had.
+        pub insert_has : has key k (earlier_rows key k rows ++ x ∷ later_rows key k rows) ≡ true
+        insert_has = cut_has_high (x ∷ later_rows key k rows) k (omega arith) ∙ has_stop k x (later_rows key k rows) (omega arith) ∙ eq-eqb (key x) k is
+
+        -- Keys up to that of an inserted row keep their places.
+        pub insert_place_low : (j : ℕ) → j ≤ k → place_of key j (earlier_rows key k rows ++ x ∷ later_rows key k rows) ≡ place_of key j rows
+        insert_place_low j l = low_place_kept (x ∷ later_rows key k rows) (low_first (later_rows key k rows) (later_above k rows rises lacks)) j l
+
+        -- Keys above that of an inserted row are one place later.
+        pub insert_place_high : (j : ℕ) → k < j → place_of key j (earlier_rows key k rows ++ x ∷ later_rows key k rows) ≡ suc (place_of key j rows)
+        insert_place_high j l =
+            omega (
+              arith,
+              cut_place_high (x ∷ later_rows key k rows) j (omega arith),
+              place_pass j x (later_rows key k rows) (omega arith),
+              high_place j (omega arith),
+            )
+
+        -- Other keys than that of an inserted row are had as they were.
+        pub insert_has_other : (j : ℕ) → (j ≡ k → ⊥) → has key j (earlier_rows key k rows ++ x ∷ later_rows key k rows) ≡ has key j rows
+        insert_has_other j other =
+            ⊎_elim
+            (λ l. low_has_kept (x ∷ later_rows key k rows) (low_first (later_rows key k rows) (later_above k rows rises lacks)) j l)
+            (λ h.
+            cut_has_high (x ∷ later_rows key k rows) j h ∙ has_pass j x (later_rows key k rows) (omega arith) ∙ sym (high_has j h))
+            (cases_lt j k)
+
+      module _ (has_it : has key k rows ≡ true) where
+        -- A row in place of that with its key leaves the keys as they were.
+        pub replace_keys : map key (earlier_rows key k rows ++ x ∷ rows_behind key k rows) ≡ map key rows
+        replace_keys =
+            let old = found k rows has_it in
+            map-append key (earlier_rows key k rows) (x ∷ rows_behind key k rows)
+            ∙ ap (λ n. map key (earlier_rows key k rows) ++ n ∷ map key (rows_behind key k rows)) (is ∙ sym old.2)
+            ∙ ap (λ after. map key (earlier_rows key k rows) ++ map key after) (sym old.1)
+            ∙ sym (map-append key (earlier_rows key k rows) (later_rows key k rows))
+            ∙ ap (map key) whole
+
       -- A row in place of that at the place of its key leaves rising rows.
       pub replace_rises : Rises key (earlier_rows key k rows ++ x ∷ rows_behind key k rows)
       replace_rises =
@@ -179,6 +374,45 @@ module _ {A : Type 0} (key : A → ℕ) where
         cut_rises (rows_behind key k rows)
         (all_weaken key (λ n. k < n) (λ n. k ≤ n) (λ n h. omega arith) (rows_behind key k rows) (behind_above k rows rises))
         (drop_rises (suc (place_of key k rows)) rows rises)
+
+    -- Rows without that at the place of a key do not have it.
+    pub remove_lacks : has key k (earlier_rows key k rows ++ rows_behind key k rows) ≡ false
+    remove_lacks =
+        cut_has_high (rows_behind key k rows) k (omega arith) ∙ has_none k (rows_behind key k rows) (behind_above k rows rises)
+
+    module _ (j : ℕ) where
+      -- Keys up to that of a removed row keep their places.
+      pub remove_place_low : j ≤ k → place_of key j (earlier_rows key k rows ++ rows_behind key k rows) ≡ place_of key j rows
+      remove_place_low l =
+          low_place_kept (rows_behind key k rows)
+          (all_weaken key (λ n. k < n) (λ n. k ≤ n) (λ n h. omega arith) (rows_behind key k rows) (behind_above k rows rises)) j l
+
+      module _ (has_it : has key k rows ≡ true) where
+        -- Keys above that of a removed row are one place earlier.
+        pub remove_place_high : k < j → suc (place_of key j (earlier_rows key k rows ++ rows_behind key k rows)) ≡ place_of key j rows
+        remove_place_high l =
+            let old = found k rows has_it in
+            omega (
+              arith,
+              cut_place_high (rows_behind key k rows) j (omega arith),
+              high_place j (omega arith),
+              ap (place_of key j) old.1,
+              place_pass j old.0 (rows_behind key k rows) (omega (arith, old.2)),
+            )
+
+        -- Other keys than that of a removed row are had as they were.
+        pub remove_has_other : (j ≡ k → ⊥) → has key j (earlier_rows key k rows ++ rows_behind key k rows) ≡ has key j rows
+        remove_has_other other =
+            let old = found k rows has_it in
+            ⊎_elim
+            (λ l.
+            low_has_kept (rows_behind key k rows)
+            (all_weaken key (λ n. k < n) (λ n. k ≤ n) (λ n h. omega arith) (rows_behind key k rows) (behind_above k rows rises)) j l)
+            (λ h.
+            cut_has_high (rows_behind key k rows) j h
+            ∙ sym (has_pass j old.0 (rows_behind key k rows) (omega (arith, old.2)))
+            ∙ ap (has key j) (sym old.1) ∙ sym (high_has j h))
+            (cases_lt j k)
 
 module _ {A : Type 0} (key : A → ℕ) where
   -- The place of a key is a matter of the keys alone.

@@ -1,12 +1,42 @@
 -- Unsettling rows: all of them from the first on, and those above a change from the last on. Assumes nothing.
-use Rattle.std.proofs.Common.{◌≡◌, ℕ, suc, ◌+◌, ◌<◌, max, List, [], ◌∷◌, ◌++◌, map, length, get_or, take, drop, set, sym, refl, ap, ◌∙◌, arith}
-use Rattle.std.proofs.lemmas.List.{append_assoc, length-map, length-take-le, set_at, get_or_at, take_more, drop_more, map_push, get_or_default}
+use Rattle.std.proofs.Common.{◌≡◌, ℕ, suc, ◌+◌, ◌-◌, ◌<◌, ◌≤◌, max, List, [], ◌∷◌, ◌++◌, map, length, get_or, take, drop, set, sym, refl, ap, ◌∙◌, ap₂, arith}
+use Rattle.std.proofs.lemmas.List.{append_assoc, length-map, length-take-le, set_at, get_or_at, take_more, drop_more, drop_all, take-append-drop, drop-drop, drop_at, take_at, map_push, get_or_default}
 use Rattle.register.specs.Tables.{longest, unsettle_by, unsettle_above}
 
 -- Unsettling keeps the number of rows.
 pub length_unsettle : {A : Type 0} (frame : A → ℕ) (unsettled : A → A) (rows : List A) (before after : ℕ) → length (unsettle_above frame unsettled rows before after) ≡ length rows
 length_unsettle frame unsettled [] before after = refl
 length_unsettle frame unsettled (a ∷ rows) before after = ap suc (length_unsettle frame unsettled rows before after)
+
+-- Memory whose first rows are others of the same number, from an end on.
+pub drop_past : {A : Type 0} (u e : List A) (place end : ℕ) → length u ≡ place → place ≤ end → drop end (u ++ drop place e) ≡ drop end e
+drop_past u e place end count l =
+    let there : place + (end - place) ≡ end = omega arith in
+    ap (λ n. drop n (u ++ drop place e)) (sym there) ∙ sym (drop-drop (end - place) place (u ++ drop place e))
+    ∙ ap (drop (end - place)) (drop_at u (drop place e) place count) ∙ drop-drop (end - place) place e ∙ ap (λ n. drop n e) there
+
+module _ {A : Type 0} (frame : A → ℕ) (unsettled : A → A) (e : List A) (place before after : ℕ) where
+  -- Before any row above the place is done, all is as it was.
+  pub none_done : place ≤ length e → e ≡ take place e ++ (unsettle_above frame unsettled (drop place (take place e)) before after ++ drop place e)
+  none_done l =
+      let none : drop place (take place e) ≡ [] = drop_all place (take place e) (omega (arith, length-take-le place e l)) in
+      sym (ap (λ xs. take place e ++ (unsettle_above frame unsettled xs before after ++ drop place e)) none ∙ take-append-drop place e)
+
+  -- Between those rows and the place there is none.
+  pub longest_none : place ≤ length e → longest frame (drop place (take place e)) ≡ 0
+  longest_none l = ap (longest frame) (drop_all place (take place e) (omega (arith, length-take-le place e l)))
+
+  abbrev done_above : List A
+  done_above = unsettle_above frame unsettled (take place e) before after
+
+  -- Those above are done, and then those from the place up to an end are unsettled.
+  pub above_then_from : (end : ℕ) → length (take place e) ≡ place → place ≤ end →
+      take place (done_above ++ drop place e) ++ (map unsettled (take (end - place) (drop place (done_above ++ drop place e))) ++ drop end (done_above ++ drop place e))
+      ≡ done_above ++ (map unsettled (take (end - place) (drop place e)) ++ drop end e)
+  above_then_from end inside l =
+      let count : length done_above ≡ place = length_unsettle frame unsettled (take place e) before after ∙ inside in
+      ap₂ (λ u d. u ++ (map unsettled (take (end - place) d) ++ drop end (done_above ++ drop place e))) (take_at done_above (drop place e) place count) (drop_at done_above (drop place e) place count)
+      ∙ ap (λ d. done_above ++ (map unsettled (take (end - place) (drop place e)) ++ d)) (drop_past done_above e place end count l)
 
 -- The next row's value is written, where those of the rows before it are.
 pub mapped_next : {A B : Type 0} (f : A → B) (rows : List A) (list now : List B) (i : ℕ) (x : A) (y : B) → i < length rows → i < length list →

@@ -1,6 +1,7 @@
 -- What the loads are as the calls of the sources answer them. Assumes nothing.
-use Rattle.std.proofs.Common.{◌≡◌, ℕ, ◌+◌, ◌<◌, ◌≤◌, min, max, List, [], ◌∷◌, refl, ap, ◌∙◌, ap₂, arith}
+use Rattle.std.proofs.Common.{◌≡◌, ℕ, ◌+◌, ◌≤◌, min, max, Bool, true, false, ltb, List, [], ◌∷◌, refl, ap, ◌∙◌, ap₂, arith}
 use Rattle.std.specs.List.{fold}
+use Rattle.std.proofs.lemmas.Bool.{ltb-true}
 use Rattle.sources.specs.Streams.{Model, Laws}
 use Rattle.sources.specs.Counts.{count, argument, jitter_answer}
 use Rattle.sources.specs.CountsLemmas.{count_le}
@@ -8,7 +9,7 @@ use Rattle.sources.specs.Models.{model, Meanings}
 use Rattle.response.specs.declared.listed.Listed as listed
 use Rattle.response.specs.Searches.{horizon}
 use Rattle.response.specs.Bounds.{longest_of, load, loads}
-use Rattle.response.specs.Curves.{models, SmallJitters, load_answer, loads_answer}
+use Rattle.response.specs.Curves.{models, SmallJitters, load_answer, added, loads_answer}
 
 module _ (m : Model) (laws : Laws m) where
   -- No more instances are counted than bit times.
@@ -24,6 +25,11 @@ module _ (m : Model) (laws : Laws m) where
       let few : argument number ≡ number = omega (arith, counted (argument within)) in
       r ∙ ap m.work (few ∙ counts)
 
+  -- A load fits 32 bits.
+  pub load_small : (t : ℕ) → load_answer m t ≤ 320000160
+  load_small t =
+      omega (arith, laws.work_at_most (count m.gap (min t horizon + jitter_answer m.jitter)), counted (min t horizon + jitter_answer m.jitter))
+
 -- The longest frame of rows, as the larger of a number and each row's frame in turn.
 longest_after : {L S : Type 0} (rows : listed.Ghosts L S) (sources : Meanings S) (ls : List L) (n : ℕ) →
     fold (λ a l. max a (sources.work (rows.source l) 1)) n ls ≡ max n (longest_of (models rows sources ls))
@@ -34,17 +40,26 @@ pub longest_folded : {L S : Type 0} (rows : listed.Ghosts L S) (sources : Meanin
     r ≡ fold (λ a l. max a (sources.work (rows.source l) 1)) 0 ls → r ≡ longest_of (models rows sources ls)
 longest_folded rows sources ls r is = omega (arith, longest_after rows sources ls 0)
 
--- The loads of rows, added to a number in turn up to the largest that fits 32 bits.
-loads_after : {L S : Type 0} (rows : listed.Ghosts L S) (sources : Meanings S) (ls : List L) (t n : ℕ) → n ≤ 4294967295 →
-    fold (λ a l. min (a + load_answer (model sources (rows.source l)) t) 4294967295) n ls ≡ min (n + loads_answer (models rows sources ls) t) 4294967295
-loads_after rows sources [] t n fits = omega arith
-loads_after rows sources (l ∷ ls) t n fits =
-    omega (arith, loads_after rows sources ls t (min (n + load_answer (model sources (rows.source l)) t) 4294967295) (omega arith))
+-- A load more and further ones come to the same up to 1,000,001, whether a sum above the horizon stays or goes on.
+added_capped : (n more rest : ℕ) → min (added n more + rest) 1000001 ≡ min (n + (more + rest)) 1000001
+added_capped n more rest = go (ltb horizon n) refl
+  where
+    go : (b : Bool) → ltb horizon n ≡ b → min (elim b [ true ↦ n | false ↦ min (n + more) 4294967295 ] + rest) 1000001 ≡ min (n + (more + rest)) 1000001
+    go true over = omega (arith, ltb-true horizon n over)
+    go false within = omega arith
 
-pub loads_folded : {L S : Type 0} (rows : listed.Ghosts L S) (sources : Meanings S) (ls : List L) (t held sum r : ℕ) → held < 4294967296 →
-    sum ≡ fold (λ a l. min (a + load_answer (model sources (rows.source l)) t) 4294967295) held ls →
+-- The loads of rows, added to a number in turn.
+loads_after : {L S : Type 0} (rows : listed.Ghosts L S) (sources : Meanings S) (ls : List L) (t n : ℕ) →
+    min (fold (λ a l. added a (load_answer (model sources (rows.source l)) t)) n ls) 1000001 ≡ min (n + loads_answer (models rows sources ls) t) 1000001
+loads_after rows sources [] t n = omega arith
+loads_after rows sources (l ∷ ls) t n =
+    let m = model sources (rows.source l) in
+    loads_after rows sources ls t (added n (load_answer m t)) ∙ added_capped n (load_answer m t) (loads_answer (models rows sources ls) t)
+
+pub loads_folded : {L S : Type 0} (rows : listed.Ghosts L S) (sources : Meanings S) (ls : List L) (t held sum r : ℕ) →
+    sum ≡ fold (λ a l. added a (load_answer (model sources (rows.source l)) t)) held ls →
     r ≡ min sum 1000001 → r ≡ min (held + loads_answer (models rows sources ls) t) 1000001
-loads_folded rows sources ls t held sum r fits is last = omega (arith, loads_after rows sources ls t held (omega arith))
+loads_folded rows sources ls t held sum r is last = last ∙ ap (λ s. min s 1000001) is ∙ loads_after rows sources ls t held
 
 -- Where no jitter is above the horizon, the loads are as they are meant, for times up to the horizon.
 pub load_exact : (m : Model) → m.jitter ≤ horizon → (t : ℕ) → t ≤ horizon → load_answer m t ≡ load m t

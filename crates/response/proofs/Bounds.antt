@@ -1,8 +1,8 @@
 -- What the searches of a row come to, where the row and the rows above it keep what a source owes. Assumes nothing.
-use Rattle.std.proofs.Common.{◌≡◌, ℕ, zero, suc, ◌+◌, ◌-◌, ◌<◌, ◌≤◌, refl, ap, ◌∙◌, zero-add, arith}
+use Rattle.std.proofs.Common.{◌≡◌, ℕ, zero, suc, ◌+◌, ◌-◌, ◌<◌, ◌≤◌, ◌↔◌, refl, ap, ◌∙◌, zero-add, arith}
 use Rattle.sources.specs.Streams.{Laws}
-use Rattle.sources.specs.RangesLemmas.{largest_is_upper, largest_is_one, sum_from_last}
-use Rattle.response.specs.Searches.{ended, failed, horizon, fixed_point, value_of, rounds_of}
+use Rattle.sources.specs.RangesLemmas.{largest_is_upper, largest_is_least, largest_is_one, sum_from_last}
+use Rattle.response.specs.Searches.{Found, ended, failed, horizon, fixed_point, value_of, rounds_of}
 use Rattle.response.specs.Bounds.{AllLawful, Place, loads, busy, delay, busy_search, NoFixedPoint, instances, delay_search, sent_by, candidate, bound, delay_rounds}
 use Rattle.response.specs.CurveLemmas.{work_never_falls, work_apart, work_at_least, one_count, load_at_least, loads_never_falls}
 use Rattle.response.proofs.Searches.{Least, searched, least, ends_below, rounds_rising}
@@ -29,6 +29,7 @@ pub record Delayed (p : Place) (t q : ℕ) : Type 0 where
   -- The work from instance q to the last one fits behind the delay.
   pub room : value + p.own.work (instances p t) ≤ t + p.own.work q
   pub early : value < t
+  pub start_under : delay_start p q ≤ delay p q (delay_start p q)
   pub start_before : delay_start p q ≤ value
   pub rounds_few : rounds + delay_start p q ≤ suc value
 
@@ -60,6 +61,22 @@ module _ (p : Place) (upper : AllLawful p.above) (own : Laws p.own) where
   ended_fixed t rounds e =
       let found : Least (busy p) (p.blocking + p.own.work 1) (ended t rounds) = rw e at busy_least in
       (found.0, omega (arith, busy_start_positive), found.2)
+
+  -- The busy search fails exactly where the busy curve has no fixed point from 1 to the horizon.
+  pub none_exactly : ((rounds : ℕ) × (busy_search p ≡ failed rounds)) ↔ NoFixedPoint p
+  none_exactly = (λ f. failed_none f.0 f.1, λ none. go none (busy_search p) refl)
+    where
+      go : NoFixedPoint p → (o : Found) → busy_search p ≡ o → (rounds : ℕ) × (busy_search p ≡ failed rounds)
+      go none (ended t rounds) e =
+          let found = ended_fixed t rounds e in
+          absurd (none t found.1 found.2 found.0)
+      go none (failed rounds) e = (rounds, e)
+
+  -- The busy search ends at the least fixed point from 1 on.
+  pub ended_least : (t rounds : ℕ) → busy_search p ≡ ended t rounds → (y : ℕ) → 1 ≤ y → busy p y ≡ y → t ≤ y
+  ended_least t rounds e y some same =
+      let found : Least (busy p) (p.blocking + p.own.work 1) (ended t rounds) = rw e at busy_least in
+      found.3 y (omega (arith, busy_at_least y some)) (omega arith)
 
   -- The busy search makes at most one evaluation for each value up to the horizon.
   pub busy_rounds : rounds_of (busy_search p) ≤ suc horizon
@@ -131,6 +148,7 @@ module _ (p : Place) (upper : AllLawful p.above) (own : Laws p.own) where
           least_of = λ z h. found.3.3 z (before z h) h;
           room = omega arith;
           early = omega arith;
+          start_under = under;
           start_before = found.3.1;
           rounds_few = found.4;
         }
@@ -150,6 +168,18 @@ module _ (p : Place) (upper : AllLawful p.above) (own : Laws p.own) where
     pub instances_at_most : instances p t ≤ t
     instances_at_most = omega (arith, work_at_least p.own own (instances p t), work_within (instances p t) (omega arith))
 
+    -- Every delay search of a busy period ends, at a fixed point before the end of the busy period.
+    pub delay_ends : (q : ℕ) → q < instances p t → (v : ℕ) × (rounds : ℕ) × (delay_search p q ≡ ended v rounds) × (delay p q v ≡ v) × (v < t) × (v ≤ horizon)
+    delay_ends q l =
+        let found = delayed q l in
+        (found.value, found.rounds, found.ends, found.stands, found.early, omega arith)
+
+    -- Each delay search starts within the horizon, at or below its own value.
+    pub delay_start_within : (q : ℕ) → q < instances p t → (delay_start p q ≤ delay p q (delay_start p q)) × (delay_start p q ≤ horizon)
+    delay_start_within q l =
+        let found = delayed q l in
+        (found.start_under, omega arith)
+
     -- Each instance of a busy period ends in it.
     pub response_within : (q : ℕ) → q < instances p t → value_of (delay_search p q) + (p.own.work (suc q) - p.own.work q) ≤ t
     response_within q l =
@@ -157,6 +187,10 @@ module _ (p : Place) (upper : AllLawful p.above) (own : Laws p.own) where
         let value_is : value_of (delay_search p q) ≡ found.value = ap value_of found.ends in
         let upto : p.own.work (suc q) ≤ p.own.work (instances p t) = work_never_falls p.own own (suc q) (instances p t) l in
         omega (arith, own.work_rises q)
+
+    -- The bound is at most the jitter and the length of the busy period.
+    pub bound_at_most : bound p (instances p t) ≤ p.own.jitter + t
+    bound_at_most = largest_is_least (instances p t) (candidate p) (p.own.jitter + t) (λ q l. omega (arith, response_within q l))
 
     -- The rounds of a delay search are no more than the values from its start to its end.
     pub delay_rounds_few : (q : ℕ) → q < instances p t → rounds_of (delay_search p q) + delay_start p q ≤ suc (value_of (delay_search p q))

@@ -26,6 +26,18 @@ drop_have P zero rows all = all
 drop_have P (suc n) [] all = tt
 drop_have P (suc n) (m ∷ ms) (first, rest) = drop_have P n ms rest
 
+-- Of rows that keep what a source owes, the row at a place keeps it.
+pub row_lawful : (rows : List Model) → AllLawful rows → (k : ℕ) → k < length rows → Laws (row rows k)
+row_lawful = row_has Laws
+
+-- The first n of such rows are such rows.
+pub take_lawful : (n : ℕ) (rows : List Model) → AllLawful rows → AllLawful (take n rows)
+take_lawful = take_have Laws
+
+-- Such rows without the first n are such rows.
+pub drop_lawful : (n : ℕ) (rows : List Model) → AllLawful rows → AllLawful (drop n rows)
+drop_lawful = drop_have Laws
+
 -- No frame is longer than 160 bit times.
 pub longest_at_most : (rows : List Model) → AllLawful rows → longest_of rows ≤ 160
 longest_at_most [] laws = omega arith
@@ -33,7 +45,7 @@ longest_at_most (m ∷ ms) (first, rest) = omega (arith, first.work_at_most 1, l
 
 -- Each row of rows that keep what a source owes has its place among such rows.
 pub place_lawful : (rows : List Model) → AllLawful rows → (m : ℕ) → m < length rows → AllLawful (place rows m).above × Laws (place rows m).own × ((place rows m).blocking ≤ 160)
-place_lawful rows laws m l = (take_have Laws m rows laws, row_has Laws rows laws m l, longest_at_most (drop (suc m) rows) (drop_have Laws (suc m) rows laws))
+place_lawful rows laws m l = (take_lawful m rows laws, row_lawful rows laws m l, longest_at_most (drop (suc m) rows) (drop_lawful (suc m) rows laws))
 
 module _ (p : Place) (upper : AllLawful p.above) (own : Laws p.own) where
   -- The busy curve never falls.

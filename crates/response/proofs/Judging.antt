@@ -6,12 +6,12 @@ use Rattle.sources.specs.Counts.{count, argument, gap_answer}
 use Rattle.sources.specs.RangesLemmas.{largest_more, sum_from_last}
 use Rattle.response.specs.Searches.{Found, horizon, ended, fixed_point, value_of, rounds_of}
 use Rattle.response.specs.Bounds.{AllLawful, Place, busy, delay, busy_search, instances, delay_search, candidate, delay_rounds}
-use Rattle.response.specs.Curves.{InRange, delay_answer, held_answer, instances_answer, length_answer, candidate_answer}
+use Rattle.response.specs.Curves.{SmallJitters, InRange, delay_answer, held_answer, instances_answer, length_answer, candidate_answer}
 use Rattle.sources.specs.Models.{model, Meanings}
 use Rattle.response.specs.declared.listed.Listed as listed
 use Rattle.response.specs.declared.place.Place as held
 use Rattle.response.specs.Views.{found_at, seen}
-use Rattle.response.specs.CurveLemmas.{models_lawful, delay_answer_rises}
+use Rattle.response.specs.CurveLemmas.{work_never_falls, models_lawful, delay_answer_rises}
 use Rattle.response.proofs.Searches.{same_search}
 use Rattle.response.proofs.CurveLaws.{delay_never_falls}
 use Rattle.response.proofs.Bounds.{delay_start, search_from_start, ended_fixed, delayed, instances_at_most, response_within, delay_rounds_at_most, busy_rounds}
@@ -33,6 +33,38 @@ counted_rounds None rounds = refl
 abbrev pub JudgedUpto : Place → ℕ → ℕ → ℕ → ℕ → ℕ → Type 0
 JudgedUpto p rounds q start worst all = (start ≡ delay_start p q) × (worst ≡ largest q (candidate p)) × (all ≡ rounds + delay_rounds p q)
 
+module _ (p : Place) (upper : AllLawful p.above) (own : Laws p.own) (small : SmallJitters p.above) where
+  -- Before the horizon the delay curve is evaluated as it is meant.
+  delay_same : (q w : ℕ) → w < horizon → delay_answer p (p.blocking + p.own.work q) w ≡ delay p q w
+  delay_same q w l = omega (arith, loads_exact p.above small (w + 1) (omega arith))
+
+  module _ (t rounds : ℕ) (ends : busy_search p ≡ ended t rounds) where
+    -- The search on the evaluated curve is the delay search.
+    pub delay_found : (q : ℕ) → q < instances p t → fixed_point (delay_answer p (p.blocking + p.own.work q)) (delay_start p q) ≡ delay_search p q
+    delay_found q l =
+        let period = ended_fixed p upper own t rounds ends in
+        let found = delayed p upper own t period q l in
+        sym
+        (search_from_start p q
+        ∙ same_search (delay p q) (delay_answer p (p.blocking + p.own.work q)) (delay_never_falls p upper own q)
+        (delay_answer_rises p upper (p.blocking + p.own.work q)) (λ x. x ≤ found.value)
+        (λ x before within. omega (arith, delay_never_falls p upper own q x found.value before, found.stands))
+        (λ x before. sym (delay_same q x (omega (arith, found.early))))
+        (delay_start p q) found.start_before)
+
+    -- Nothing that instance q brings about passes the horizon.
+    pub within_period : (q : ℕ) → q < instances p t →
+        (q < horizon) × (p.blocking + p.own.work q ≤ horizon) × (p.own.work q ≤ p.own.work (q + 1)) ×
+        (value_of (delay_search p q) + (p.own.work (q + 1) - p.own.work q) ≤ horizon)
+    within_period q l =
+        let period = ended_fixed p upper own t rounds ends in
+        let next : p.own.work (q + 1) ≡ p.own.work (suc q) = ap p.own.work (add-one q) in (
+          omega (arith, instances_at_most p upper own t period),
+          omega (arith, work_never_falls p.own own q (instances p t) (omega arith)),
+          omega (arith, own.work_rises q),
+          omega (arith, response_within p upper own t period q l),
+        )
+
 -- A row in range whose busy search ended at t: it and the rows above it keep what a source owes.
 pub record Period (p : Place) (t rounds : ℕ) : Type 0 where
   pub upper : AllLawful p.above
@@ -52,33 +84,13 @@ module _ {p : Place} {t rounds : ℕ} (period : Period p t rounds) where
   pub counted_instances : instances_answer p t ≡ instances p t
   counted_instances = let within = end_within in let small = period.in_range.1 in ap (count p.own.gap) (omega arith)
 
-  -- Before the horizon the delay curve is evaluated as it is meant.
-  delay_same : (q w : ℕ) → w < horizon → delay_answer p (p.blocking + p.own.work q) w ≡ delay p q w
-  delay_same q w l = omega (arith, loads_exact p.above period.in_range.0 (w + 1) (omega arith))
-
   module _ (q : ℕ) (inside : q < instances p t) where
-    -- The search on the evaluated curve is the delay search.
-    delay_found : fixed_point (delay_answer p (p.blocking + p.own.work q)) (delay_start p q) ≡ delay_search p q
-    delay_found =
-        let end = end_is in
-        let found = delayed p period.upper period.own t end q inside in
-        sym
-        (search_from_start p q
-        ∙ same_search (delay p q) (delay_answer p (p.blocking + p.own.work q)) (delay_never_falls p period.upper period.own q)
-        (delay_answer_rises p period.upper (p.blocking + p.own.work q)) (λ x. x ≤ found.value)
-        (λ x before within. omega (arith, delay_never_falls p period.upper period.own q x found.value before, found.stands))
-        (λ x before. sym (delay_same q x (omega (arith, found.early))))
-        (delay_start p q) found.start_before)
-
     -- Nothing that instance q brings about passes the horizon.
     pub before_horizon : q < horizon
-    before_horizon = let end = end_is in omega (arith, instances_at_most p period.upper period.own t end)
+    before_horizon = (within_period p period.upper period.own period.in_range.0 t rounds period.ends q inside).0
 
     sent_within : value_of (delay_search p q) + (p.own.work (q + 1) - p.own.work q) ≤ horizon
-    sent_within =
-        let end = end_is in
-        let next : p.own.work (q + 1) ≡ p.own.work (suc q) = ap p.own.work (add-one q) in
-        omega (arith, response_within p period.upper period.own t end q inside)
+    sent_within = (within_period p period.upper period.own period.in_range.0 t rounds period.ends q inside).3
 
     length_is : length_answer p q ≡ p.own.work (q + 1) - p.own.work q
     length_is = ap₂ (λ a b. p.own.work a - p.own.work b) (as_it_is_next q before_horizon) (as_it_is q before_horizon)
@@ -87,7 +99,7 @@ module _ {p : Place} {t rounds : ℕ} (period : Period p t rounds) where
     pub found_delay : (held start : ℕ) (found : Found) → held ≡ held_answer p q → start ≡ delay_start p q → found ≡ fixed_point (delay_answer p held) start → found ≡ delay_search p q
     found_delay held start found held_is from_start is =
         let time : held ≡ p.blocking + p.own.work q = held_is ∙ ap (λ k. p.blocking + p.own.work k) (as_it_is q before_horizon) in
-        is ∙ ap₂ (λ h s. fixed_point (delay_answer p h) s) time from_start ∙ delay_found
+        is ∙ ap₂ (λ h s. fixed_point (delay_answer p h) s) time from_start ∙ delay_found p period.upper period.own period.in_range.0 t rounds period.ends q inside
 
     -- The outcome of that search, and the length of the instance.
     module _ (found : Found) (is : found ≡ delay_search p q) where

@@ -161,6 +161,10 @@ pub more_one : (n : ℕ) (o : Found) → more n (one_more o) ≡ more (n + 1) o
 more_one n (ended value rounds) = ap (ended value) (omega arith)
 more_one n (failed rounds) = ap failed (omega arith)
 
+pub more_none : (o : Found) → more 0 o ≡ o
+more_none (ended value rounds) = ap (ended value) (omega arith)
+more_none (failed rounds) = ap failed (omega arith)
+
 pub more_rounds : (n : ℕ) (o : Found) → rounds_of (more n o) ≡ n + rounds_of o
 more_rounds n (ended value rounds) = refl
 more_rounds n (failed rounds) = refl

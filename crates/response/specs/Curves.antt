@@ -1,5 +1,5 @@
 -- The curves that the analysis evaluates, as the calls of the sources answer them.
-use Rattle.std.specs.Prelude.{ℕ, ◌+◌, ◌-◌, ◌≤◌, min, List, map}
+use Rattle.std.specs.Prelude.{ℕ, ◌+◌, ◌-◌, ◌≤◌, true, false, min, nat_lt, List, map}
 use Rattle.sources.specs.Streams.{Model}
 use Rattle.sources.specs.Counts.{count, argument, gap_answer, jitter_answer}
 use Rattle.sources.specs.Models.{model, Meanings}
@@ -30,6 +30,10 @@ load_answer m t = load (answerable m) (min t horizon)
 -- The loads of rows within t, for times up to the horizon.
 abbrev pub loads_answer : List Model → ℕ → ℕ
 loads_answer ms t = loads (map answerable ms) (min t horizon)
+
+-- A sum with one load more, up to the largest number of 32 bits. A sum above the horizon stays as it is.
+abbrev pub added : ℕ → ℕ → ℕ
+added sum more = elim (nat_lt horizon sum) [ true ↦ sum | false ↦ min (sum + more) 4294967295 ]
 
 -- The busy curve of a row.
 abbrev pub busy_answer : Place → ℕ → ℕ

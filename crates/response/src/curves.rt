@@ -1,10 +1,9 @@
 // The two curves of the analysis: how long a busy period lasts, and how long an instance waits.
 ghost use Rattle.std.specs.Prelude.{◌≡◌, ℕ, ◌+◌, min};
 ghost use Rattle.sources.specs.Counts.{jitter_answer};
-ghost use Rattle.sources.specs.Models.{model, meanings};
+ghost use Rattle.sources.specs.Models.{model};
 ghost use Rattle.response.specs.Searches.{horizon};
-ghost use Rattle.response.specs.Curves.{models, load_answer, loads_answer, busy_answer, delay_answer};
-ghost use Rattle.response.specs.CurveLemmas.{busy_rises, delay_rises};
+ghost use Rattle.response.specs.Curves.{models, load_answer, added, loads_answer, busy_answer, delay_answer};
 ghost use Rattle.response.specs.Views.{seen};
 
 use crate::fixed_point::{Curve, HORIZON};
@@ -26,13 +25,23 @@ fn load<S: Source>(source: &S, t: u32) -> u32
     source.work(source.count(reach(source, t)))
 }
 
+// A sum with the load of one row more; past the horizon that load is not worked out.
+fn with_load<S: Source>(sum: u32, source: &S, t: u32) -> u32
+    ensures { result ≡ added sum (load_answer (model S.Source source.now) t) }
+{
+    if sum > HORIZON {
+        return sum;
+    }
+    sum.saturating_add(load(source, t))
+}
+
 // What is held already and the loads of the rows within t, or 1,000,001 where that is more.
 #[tactic(auto, using(crate::proofs::AnswerLaws::loads_folded))]
 fn add_loads<L: Listed<Of = S>, S: Source>(held: u32, rows: &[L], t: u32) -> u32
     ensures { result ≡ min (held + loads_answer (models L.Listed S.Source rows.now) t) 1000001 }
 {
     rows.iter()
-        .fold(held, |sum, row| sum.saturating_add(load(row.source(), t)))
+        .fold(held, |sum, row| with_load(sum, row.source(), t))
         .min(HORIZON + 1)
 }
 
@@ -45,9 +54,6 @@ pub(crate) struct Busy<'p, 'a, L> {
 
 impl<L: Listed<Of = S>, S: Source> Curve for Busy<'_, '_, L> {
     ghost curve = { λ c. busy_answer (seen L.Listed S.Source c.place.now) };
-
-    // In a law `S.Source` is the trait's own record, so the two are joined here.
-    ghost rising = { λ c. busy_rises L.Listed (meanings S.Entry S.Source.own) S.Source.lawful c.place.now };
 
     fn value(&self, x: u32) -> u32 {
         let place = self.place;
@@ -66,8 +72,6 @@ pub(crate) struct Delay<'p, 'a, L> {
 
 impl<L: Listed<Of = S>, S: Source> Curve for Delay<'_, '_, L> {
     ghost curve = { λ c. delay_answer (seen L.Listed S.Source c.place.now) c.held };
-
-    ghost rising = { λ c. delay_rises L.Listed (meanings S.Entry S.Source.own) S.Source.lawful c.place.now c.held };
 
     fn value(&self, x: u32) -> u32 {
         add_loads(self.held, self.place.above, x.saturating_add(1))

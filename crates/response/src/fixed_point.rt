@@ -12,11 +12,10 @@ pub const HORIZON: u32 = 1_000_000;
 pub trait Curve {
     ghost curve: { Self → ℕ → ℕ };
 
-    // The curve's value at x; one past the horizon is answered as 1,000,001.
+    // The curve's value at x; one past the horizon is answered as 1,000,001. The curve never falls.
     fn value(&self, x: u32) -> u32
-        ensures answer { result ≡ min (curve self.now x) 1000001 };
-
-    ghost rising: { (c : Self) → NeverFalls (curve c) };
+        ensures answer { result ≡ min (curve self.now x) 1000001 }
+        ensures rising { NeverFalls (curve self.now) };
 }
 
 // Where a search ended, if it did, and how many evaluations it made.

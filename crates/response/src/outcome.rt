@@ -15,15 +15,24 @@ pub enum Verdict {
     None,
 }
 
+impl Verdict {
+    // The word for the verdict.
+    pub fn word(self) -> &'static str
+        ensures { result.now ≡ verdict_word (verdict_of self) }
+    {
+        match self {
+            Verdict::Ok => "ok",
+            Verdict::Late => "late",
+            Verdict::None => "none",
+        }
+    }
+}
+
 impl fmt::Display for Verdict {
     ghost output = { λ v. Some (verdict_word (verdict_of v)) };
 
     fn fmt<W: fmt::Write>(&self, f: &mut fmt::Formatter<W>) -> fmt::Result {
-        f.write_str(match self {
-            Verdict::Ok => "ok",
-            Verdict::Late => "late",
-            Verdict::None => "none",
-        })
+        f.write_str(self.word())
     }
 }
 

@@ -5,7 +5,7 @@ use response::{Row, Verdict, respond};
 use sources::{Cyclic, RowFault};
 use std::test::Fail;
 
-type CyclicRow = Row<Cyclic<Standard>>;
+type CyclicRow = Row<Cyclic<Standard, u16>>;
 
 fn cyclic_row(
     identifier: u16,

@@ -5,7 +5,7 @@ use response::{ResponseFault, Row, Verdict, respond};
 use sources::{Cyclic, HeldUp, RowFault};
 use std::test::Fail;
 
-type HeldUpRow = Row<HeldUp<HeldUp<Cyclic<Standard>>>>;
+type HeldUpRow = Row<HeldUp<HeldUp<Cyclic<Standard, u16>>>>;
 
 // A row of the longest period with a jitter of 999,999 and what it is held up beyond that.
 fn held_up_row(beyond: u32, deadline: u32) -> Result<HeldUpRow, RowFault> {

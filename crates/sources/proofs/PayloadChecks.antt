@@ -1,9 +1,18 @@
 -- Payloads that are at most eight bytes, and the frames that carry them. Assumes nothing.
-use Rattle.std.proofs.Common.{◌≡◌, ℕ, zero, suc, ◌<◌, ◌≤◌, false, ltb, List, [], ◌∷◌, map, length, get_or, le_of_suc-le-suc, not-suc-le-zero, arith}
-use Rattle.std.proofs.lemmas.List.{length-map, get_or-map}
-use Rattle.std.proofs.lemmas.Bool.{ltb-false, or_parts}
+use Rattle.std.proofs.Common.{◌≡◌, ℕ, zero, suc, ◌+◌, ◌<◌, ◌≤◌, true, false, ◌||◌, ltb, List, [], ◌∷◌, map, length, get_or, drop, ap, ◌∙◌, le_of_suc-le-suc, not-suc-le-zero, arith}
+use Rattle.std.proofs.lemmas.List.{at_drop_more, length-map, get_or-map}
+use Rattle.std.proofs.lemmas.Bool.{ltb-false, lt-ltb, le-ltb, or_parts}
 use Rattle.sources.specs.Answers.{some_above}
 use Rattle.sources.specs.Cycles.{FrameCycle}
+
+module _ (limit : ℕ) (ns : List ℕ) (i : ℕ) (inside : i < length ns) where
+  -- A number above the limit is found where it stands.
+  pub above_here : limit < get_or ns i 0 → some_above limit (drop i ns) ≡ true
+  above_here l = at_drop_more (some_above limit) ns i 0 inside ∙ ap (λ b. b || some_above limit (drop (i + 1) ns)) (lt-ltb limit (get_or ns i 0) l)
+
+  -- One that is not above the limit may be passed.
+  pub above_later : get_or ns i 0 ≤ limit → some_above limit (drop i ns) ≡ some_above limit (drop (i + 1) ns)
+  above_later l = at_drop_more (some_above limit) ns i 0 inside ∙ ap (λ b. b || some_above limit (drop (i + 1) ns)) (le-ltb limit (get_or ns i 0) l)
 
 -- Where none is above the limit, each is at most the limit.
 pub none_above : (limit : ℕ) (ns : List ℕ) → some_above limit ns ≡ false → (i : ℕ) → i < length ns → get_or ns i 0 ≤ limit

@@ -1,5 +1,5 @@
 // The burst source: a message that comes in bursts of a few frames of one length.
-ghost use Rattle.std.specs.Prelude.{◌≡◌, ℕ, Ok};
+ghost use Rattle.std.specs.Prelude.{◌≡◌, ℕ};
 ghost use Rattle.sources.specs.Counts.{count, argument};
 ghost use Rattle.sources.specs.Bursts.{burst_gap, burst_work, burst_count, BurstTraffic};
 ghost use Rattle.sources.specs.Faults.{fault_number};
@@ -15,30 +15,40 @@ use frames::{Format, Identifier};
 use std::alloc::AllocError;
 use std::marker::PhantomData;
 
-// Volleys of frames with one identifier, in a format. No generic source over a cycle or a volley: count states a closed form for each.
-#[derive(Clone, Copy)]
-pub struct Burst<F> {
+// Volleys of frames with one identifier, which is kept in the format's integer type. No generic source over a cycle or a volley: count
+// states a closed form for each.
+#[derive(Copy)]
+pub struct Burst<F, I> {
     format: PhantomData<F>,
-    identifier: u32,
+    identifier: I,
     volley: Volley,
 }
 
-impl<F: Format> Burst<F> {
+impl<F: Copy, I: Copy> Clone for Burst<F, I> {
+    ghost is_clone = { λ b c. c ≡ b };
+
+    ghost is_infallible = { λ b. b ≡ b };
+
+    fn clone(&self) -> Result<Burst<F, I>, AllocError> {
+        Ok(*self)
+    }
+}
+
+impl<F: Format<Id = I>, I: Identifier> Burst<F, I> {
     // Refused, in this order, with 11 for an identifier above the format's highest, 12 for a period not 100 × size to 1,000,000,
     // 13 for a payload count not 1, 14 for a payload above 8, and 15 for a size not 1 to 16, no spacing, or a period below
     // size × spacing.
     pub fn new(
         _format: F,
-        identifier: F::Id,
+        identifier: I,
         period: u32,
         size: u32,
         spacing: u32,
         payloads: &[u8],
-    ) -> Result<Burst<F>, RowFault>
-        ensures { answered fault_number burst_values result ≡ burst_answer F.Format.HIGHEST F.Format.longest (F.Id.number identifier) period size spacing payloads.now }
+    ) -> Result<Burst<F, I>, RowFault>
+        ensures { answered fault_number (burst_values I.Identifier.number) result ≡ burst_answer F.Format.HIGHEST F.Format.longest (I.Identifier.number identifier) period size spacing payloads.now }
     {
-        let identifier = identifier.number();
-        if identifier > F::HIGHEST {
+        if identifier.number() > F::HIGHEST {
             return Err(RowFault::Identifier);
         }
         if u64::from(period) < 100 * u64::from(size) || period > 1_000_000 {
@@ -67,15 +77,15 @@ impl<F: Format> Burst<F> {
     }
 }
 
-impl<F> Entry for Burst<F> {
-    ghost identifier = { λ b. b.identifier };
+impl<F: Format<Id = I>, I: Identifier> Entry for Burst<F, I> {
+    ghost identifier = { λ b. I.Identifier.number b.identifier };
 
     fn identifier(&self) -> u32 {
-        self.identifier
+        self.identifier.number()
     }
 }
 
-impl<F> Source for Burst<F> {
+impl<F: Format<Id = I>, I: Identifier> Source for Burst<F, I> {
     ghost gap = { λ b. burst_gap b.volley.size b.volley.spacing b.volley.period };
 
     ghost work = { λ b. burst_work b.volley.bits };
@@ -105,11 +115,4 @@ impl<F> Source for Burst<F> {
     {
         self.volley.count(x)
     }
-}
-
-// A clone is the same source, and making it does not fail.
-fn cloned<F: Clone>(source: &Burst<F>) -> Result<Burst<F>, AllocError>
-    ensures { result ≡ Ok source.now }
-{
-    source.clone()
 }

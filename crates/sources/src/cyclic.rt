@@ -1,5 +1,5 @@
 // The cyclic source: a message sent at a period, whose payload size goes round a cycle.
-ghost use Rattle.std.specs.Prelude.{◌≡◌, ℕ, ◌+◌, ◌-◌, ◌/◌, Ok};
+ghost use Rattle.std.specs.Prelude.{◌≡◌, ℕ, ◌+◌, ◌-◌, ◌/◌};
 ghost use Rattle.sources.specs.Counts.{count, argument};
 ghost use Rattle.sources.specs.Cycles.{cycle_work, cyclic_gap, CyclicTraffic, WholeRounds};
 ghost use Rattle.sources.specs.Lengths.{lengths_of};
@@ -17,27 +17,36 @@ use frames::{Format, Identifier};
 use std::alloc::AllocError;
 use std::marker::PhantomData;
 
-// A cycle of frames with one identifier, in a format.
-#[derive(Clone, Copy)]
-pub struct Cyclic<F> {
+// A cycle of frames with one identifier, which is kept in the format's integer type.
+#[derive(Copy)]
+pub struct Cyclic<F, I> {
     format: PhantomData<F>,
-    identifier: u32,
+    identifier: I,
     cycle: Cycle,
 }
 
-impl<F: Format> Cyclic<F> {
+impl<F: Copy, I: Copy> Clone for Cyclic<F, I> {
+    ghost is_clone = { λ c d. d ≡ c };
+
+    ghost is_infallible = { λ c. c ≡ c };
+
+    fn clone(&self) -> Result<Cyclic<F, I>, AllocError> {
+        Ok(*self)
+    }
+}
+
+impl<F: Format<Id = I>, I: Identifier> Cyclic<F, I> {
     // Refused, in this order, with 11 for an identifier above the format's highest, 12 for a period not 100 to 1,000,000, 13 for
     // a payload count not 1 to 32, and 14 for a payload above 8.
     pub fn new(
         _format: F,
-        identifier: F::Id,
+        identifier: I,
         period: u32,
         payloads: &[u8],
-    ) -> Result<Cyclic<F>, RowFault>
-        ensures { answered fault_number cyclic_values result ≡ cyclic_answer F.Format.HIGHEST F.Format.longest (F.Id.number identifier) period payloads.now }
+    ) -> Result<Cyclic<F, I>, RowFault>
+        ensures { answered fault_number (cyclic_values I.Identifier.number) result ≡ cyclic_answer F.Format.HIGHEST F.Format.longest (I.Identifier.number identifier) period payloads.now }
     {
-        let identifier = identifier.number();
-        if identifier > F::HIGHEST {
+        if identifier.number() > F::HIGHEST {
             return Err(RowFault::Identifier);
         }
         if !(100..=1_000_000).contains(&period) {
@@ -57,15 +66,15 @@ impl<F: Format> Cyclic<F> {
     }
 }
 
-impl<F> Entry for Cyclic<F> {
-    ghost identifier = { λ c. c.identifier };
+impl<F: Format<Id = I>, I: Identifier> Entry for Cyclic<F, I> {
+    ghost identifier = { λ c. I.Identifier.number c.identifier };
 
     fn identifier(&self) -> u32 {
-        self.identifier
+        self.identifier.number()
     }
 }
 
-impl<F> Source for Cyclic<F> {
+impl<F: Format<Id = I>, I: Identifier> Source for Cyclic<F, I> {
     ghost gap = { λ c. cyclic_gap c.cycle.period };
 
     ghost work = { λ c. cycle_work (lengths_of c.cycle.lengths) };
@@ -99,11 +108,4 @@ impl<F> Source for Cyclic<F> {
     {
         self.cycle.count(x)
     }
-}
-
-// A clone is the same source, and making it does not fail.
-fn cloned<F: Clone>(source: &Cyclic<F>) -> Result<Cyclic<F>, AllocError>
-    ensures { result ≡ Ok source.now }
-{
-    source.clone()
 }

@@ -2,6 +2,7 @@
 // times, each time with other deadlines, and also prints how many nanoseconds the shortest turn took.
 #![tactic(auto)]
 
+use anyhow::anyhow;
 use frames::Standard;
 use response::{Outcome, Row, Verdict, respond};
 use sources::Cyclic;
@@ -12,7 +13,7 @@ use std::time::Instant;
 // How many rows the table has.
 const ROWS: u16 = 256;
 
-type Message = Cyclic<Standard>;
+type Message = Cyclic<Standard, u16>;
 
 // Row i of the table: a cycle of one to four payloads, and a period that rises from row to row.
 fn row(i: u16, turn: u32) -> anyhow::Result<Row<Message>> {
@@ -43,7 +44,8 @@ fn total(outcome: Outcome) -> u64 {
 fn answers(rows: &[Row<Message>]) -> anyhow::Result<u64> {
     let mut sum = 0u64;
     for place in 0..rows.len() {
-        sum = sum.wrapping_add(total(respond(rows, place)?));
+        let outcome = respond(rows, place).map_err(|_| anyhow!("the analysis refused the table"))?;
+        sum = sum.wrapping_add(total(outcome));
     }
     Ok(sum)
 }

@@ -1,8 +1,8 @@
 -- The worked cases hold. Assumes nothing.
-use Rattle.std.proofs.Common.{◌≡◌, ℕ, ◌+◌, ◌*◌, ◌/◌, [], ◌∷◌, refl, ap, ◌∙◌, add-zero, arith}
+use Rattle.std.proofs.Common.{◌≡◌, ℕ, ◌+◌, ◌-◌, ◌*◌, ◌/◌, ◌%◌, ◌≤◌, List, [], ◌∷◌, length, refl, ap, ◌∙◌, add-zero, arith}
 use Rattle.std.proofs.Math.Nat.{div-one, mod-one}
 use mathlib.Core.Path.{fun_ext}
-use Rattle.sources.specs.Cycles.{FrameCycle}
+use Rattle.sources.specs.Cycles.{FrameCycle, cycle_work, cyclic_model}
 use Rattle.sources.specs.CyclesLemmas.{cycle_work_closed}
 use Rattle.sources.specs.CyclicLaws.{cyclic_count}
 use Rattle.response.specs.Searches.{failed, fixed_point}
@@ -34,6 +34,19 @@ alone_case = refl
 without_bound : (p : Place) (deadline rounds : ℕ) → busy_search p ≡ failed rounds → response p deadline ≡ none rounds
 without_bound p deadline rounds e = rw (e, response)
 
+-- The work of the first k instances of a cyclic row: that of the whole rounds of its cycle, and that of the rest.
+abbrev closed_work : List ℕ → ℕ → ℕ
+closed_work cycle k = (k / length cycle) * cycle_work cycle (length cycle) + cycle_work cycle (k % length cycle)
+
+-- The load of a cyclic row in closed form, which computes at large times too.
+abbrev closed_load : List ℕ → ℕ → ℕ → ℕ
+closed_load cycle period t = closed_work cycle ((t + (period - 1)) / period)
+
+-- The load of a cyclic row is its closed form.
+load_closed : (cycle : List ℕ) → FrameCycle cycle → (period : ℕ) → 1 ≤ period → (t : ℕ) → load (cyclic_model cycle period) t ≡ closed_load cycle period t
+load_closed cycle frames period some t =
+    rw (add-zero t, cyclic_count period some t) (cycle_work_closed cycle frames ((t + (period - 1)) / period))
+
 -- The one frame of the full row is a cycle.
 full_cycle : FrameCycle (135 ∷ [])
 full_cycle = (omega arith, only_zero _ (omega arith, omega arith))
@@ -41,8 +54,8 @@ full_cycle = (omega arith, only_zero _ (omega arith, omega arith))
 -- The load of the full row is its frame, once for each period that begins within the time: a form that computes at large times too.
 full_load : (t : ℕ) → load full_row t ≡ ((t + 134) / 135) * 135
 full_load t =
-    rw (add-zero t, cyclic_count 135 (omega arith) t)
-    (rw (div-one ((t + 134) / 135), mod-one ((t + 134) / 135), add-zero) at (cycle_work_closed (135 ∷ []) full_cycle ((t + 134) / 135)))
+    load_closed (135 ∷ []) full_cycle 135 (omega arith) t
+    ∙ rw (div-one ((t + 134) / 135), mod-one ((t + 134) / 135), add-zero (((t + 134) / 135) * 135)) refl
 
 -- The busy curve of the full row above a frame of 55 bit times, in that form.
 abbrev crowded_curve : ℕ → ℕ

@@ -83,7 +83,7 @@ fn show_use(rt: &impl Print, action: &Use<Message>) -> io::Result<()> {
 
 // Shows the verdict, the bound if there is one, and the round count.
 fn show_outcome(rt: &impl Print, outcome: Outcome) -> io::Result<()> {
-    let verdict = outcome.verdict();
+    let verdict = outcome.verdict().word();
     match outcome {
         Outcome::Ok { bound, rounds } | Outcome::Late { bound, rounds } => println!(rt;
             "{verdict}, bound {bound}, rounds {rounds}"

@@ -4,7 +4,7 @@ use response::Row;
 use sources::{Cyclic, RowFault};
 
 // A cyclic source in the standard format.
-pub type Message = Cyclic<Standard>;
+pub type Message = Cyclic<Standard, u16>;
 
 pub fn row(
     identifier: u16,

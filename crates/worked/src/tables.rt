@@ -25,7 +25,7 @@ fn show_outcome(rt: &impl Print, row: &Row<Message>, outcome: Outcome) -> io::Re
     let identifier = row.source.identifier();
     let bound = outcome.bound();
     let deadline = row.deadline;
-    let verdict = outcome.verdict();
+    let verdict = outcome.verdict().word();
     let rounds = outcome.rounds();
     println!(rt; "  {identifier} {bound} {deadline} {verdict} {rounds}")
 }

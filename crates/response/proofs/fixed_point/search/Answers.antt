@@ -13,7 +13,7 @@ module _ (g : given.Over) (s : After-value-answer g) where
   curve = g.C.Curve.curve s.args.on.now
 
   rising : NeverFalls curve
-  rising = g.met.C.Curve.rising s.args.on.now
+  rising = s.value-answer.ensures.rising
 
   taken : (step : ControlFlow Found ℕ) → step ≡ next_step s.loop-found.value s.value-answer.result (s.loop-found.rounds + 1) →
       Took curve s.loop-found.value s.loop-found.rounds step

@@ -1,0 +1,7 @@
+use Rattle.sources.specs.Models.{meanings}
+use Rattle.response.specs.CurveLemmas.{delay_rises}
+use Rattle.response.proofs.curves.DelayCurve.value.Goals as goal
+
+pub returns-clause-rising : goal.returns-clause-rising
+returns-clause-rising g c =
+    delay_rises g.L.Listed (meanings g.S.Entry g.S.Source) g.met.S.Source.lawful c.args.self.now.place.now c.args.self.now.held
