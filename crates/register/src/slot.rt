@@ -68,7 +68,8 @@ impl<S> Slot<S> {
     pub fn bound(&self) -> u32
         ensures { result ≡ bound_shown self.now }
     {
-        self.shown().map_or(0, |outcome| outcome.bound())
+        let outcome = self.outcome.as_ref();
+        outcome.map_or(0, |outcome| outcome.bound())
     }
 }
 

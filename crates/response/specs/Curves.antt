@@ -1,5 +1,5 @@
 -- The curves that the analysis evaluates, as the calls of the sources answer them.
-use Rattle.std.specs.Prelude.{ℕ, ◌+◌, ◌-◌, ◌≤◌, true, false, min, nat_lt, List, map}
+use Rattle.std.specs.Prelude.{ℕ, ◌+◌, ◌-◌, ◌≤◌, true, false, min, nat_lt, Option, Some, None, List, map}
 use Rattle.sources.specs.Streams.{Model}
 use Rattle.sources.specs.Counts.{count, argument, gap_answer, jitter_answer}
 use Rattle.sources.specs.Models.{model, Meanings}
@@ -31,9 +31,9 @@ load_answer m t = load (answerable m) (min t horizon)
 abbrev pub loads_answer : List Model → ℕ → ℕ
 loads_answer ms t = loads (map answerable ms) (min t horizon)
 
--- A sum with one load more, up to the largest number of 32 bits. A sum above the horizon stays as it is.
-abbrev pub added : ℕ → ℕ → ℕ
-added sum more = elim (nat_lt horizon sum) [ true ↦ sum | false ↦ min (sum + more) 4294967295 ]
+-- A sum with one load more, up to the largest number of 32 bits, or none where the sum is above the horizon.
+abbrev pub added : ℕ → ℕ → Option ℕ
+added sum more = elim (nat_lt horizon sum) [ true ↦ None | false ↦ Some (min (sum + more) 4294967295) ]
 
 -- The busy curve of a row.
 abbrev pub busy_answer : Place → ℕ → ℕ

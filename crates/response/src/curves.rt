@@ -25,24 +25,23 @@ fn load<S: Source>(source: &S, t: u32) -> u32
     source.work(source.count(reach(source, t)))
 }
 
-// A sum with the load of one row more; past the horizon that load is not worked out.
-fn with_load<S: Source>(sum: u32, source: &S, t: u32) -> u32
+// A sum with the load of one row more, or none past the horizon, where that load is not worked out.
+fn with_load<S: Source>(sum: u32, source: &S, t: u32) -> Option<u32>
     ensures { result ≡ added sum (load_answer (model S.Source source.now) t) }
 {
     if sum > HORIZON {
-        return sum;
+        return None;
     }
-    sum.saturating_add(load(source, t))
+    Some(sum.saturating_add(load(source, t)))
 }
 
 // What is held already and the loads of the rows within t, or 1,000,001 where that is more.
-#[tactic(auto, using(crate::proofs::AnswerLaws::loads_folded))]
 fn add_loads<L: Listed<Of = S>, S: Source>(held: u32, rows: &[L], t: u32) -> u32
     ensures { result ≡ min (held + loads_answer (models L.Listed S.Source rows.now) t) 1000001 }
 {
     rows.iter()
-        .fold(held, |sum, row| with_load(sum, row.source(), t))
-        .min(HORIZON + 1)
+        .try_fold(held, |sum, row| with_load(sum, row.source(), t))
+        .map_or(HORIZON + 1, |sum| sum.min(HORIZON + 1))
 }
 
 // The busy curve of a row: the most that the bus is held within x from the start of a busy period, by a frame below, by the row itself

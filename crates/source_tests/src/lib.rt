@@ -1,4 +1,5 @@
-// Tests of the sources: both ends of every range, the order of the refusals, and answers that were worked out apart.
+// Tests of the sources: both ends of every range, the order of the refusals, answers that were worked out apart, and the
+// words for faults.
 #![tactic(auto)]
 
 #[cfg(test)]
@@ -9,3 +10,5 @@ mod order;
 mod ranges;
 #[cfg(test)]
 mod results;
+#[cfg(test)]
+mod words;
